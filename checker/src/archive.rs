@@ -1,0 +1,42 @@
+//! The archive under test, called as a C program calls it.
+
+use crate::analog::{Answer, Correction};
+
+extern "C" {
+    fn pmc330_corrected(
+        range: u32,
+        gain: u32,
+        high: u32,
+        low: u32,
+        high_sum: u32,
+        low_sum: u32,
+        raw: u32,
+    ) -> u64;
+    fn pmc330_code(range: u32, gain: u32, microvolts: i32) -> u32;
+}
+
+/// The archive's answer to a correction: 256 * value + number.
+pub fn corrected(call: &Correction) -> Answer {
+    // Safe: plain numbers go in and out, and no memory is lent.
+    let word = unsafe {
+        pmc330_corrected(
+            call.range,
+            call.gain,
+            call.high,
+            call.low,
+            call.high_sum,
+            call.low_sum,
+            call.raw,
+        )
+    };
+    Answer {
+        number: word % 256,
+        value: word / 256,
+    }
+}
+
+/// The archive's straight-binary code of a voltage. Only the remainders by 4 of range and gain count.
+pub fn code(range: u32, gain: u32, microvolts: i32) -> u32 {
+    // Safe: plain numbers go in and out, and no memory is lent.
+    unsafe { pmc330_code(range, gain, microvolts) }
+}

@@ -1,0 +1,6 @@
+pub mod Bench
+pub mod Questions
+pub mod Integers
+pub mod Ranges
+pub mod CodeLaw
+pub mod CorrectionLaw

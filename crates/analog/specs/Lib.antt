@@ -1,0 +1,5 @@
+pub mod Answers
+pub mod Code
+pub mod Correction
+pub mod Bench
+pub mod Machine

@@ -1,0 +1,40 @@
+// What C links: include/pmc330.h declares each function here.
+ghost use mathlib.Core.Path.{_≡_};
+ghost use Rattle.analog.specs.Answers.{packed};
+ghost use Rattle.analog.specs.Code.{codeOf};
+ghost use Rattle.analog.specs.Correction.{correctedAnswer};
+use analog::Answer;
+
+// An answer as one number, 256 × value + number.
+fn packed_answer(answer: Answer) -> u64
+    ensures { λ r. ⌜ r ≡ packed answer ⌝ }
+{
+    match answer {
+        Answer::Accepted(value) => 256 * (value as u64),
+        Answer::Refused(number) => number as u64,
+    }
+}
+
+// The two-point correction of a raw code.
+#[no_mangle]
+pub extern "C" fn pmc330_corrected(
+    range: u32,
+    gain: u32,
+    high: u32,
+    low: u32,
+    high_sum: u32,
+    low_sum: u32,
+    raw: u32,
+) -> u64
+    ensures { λ r. ⌜ r ≡ packed (correctedAnswer range gain high low «high_sum» «low_sum» raw) ⌝ }
+{
+    packed_answer(analog::corrected(range, gain, high, low, high_sum, low_sum, raw))
+}
+
+// The straight code of a voltage.
+#[no_mangle]
+pub extern "C" fn pmc330_code(range: u32, gain: u32, microvolts: i32) -> u32
+    ensures { λ r. ⌜ r ≡ codeOf range gain microvolts ⌝ }
+{
+    analog::code(range, gain, microvolts) as u32
+}
