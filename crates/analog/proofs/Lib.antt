@@ -4,3 +4,4 @@ pub mod Integers
 pub mod Ranges
 pub mod CodeLaw
 pub mod CorrectionLaw
+pub mod Bounds

@@ -1,0 +1,13 @@
+-- The starred bench cases on the schedule and on the questions hold, by computation: some 9,000 single ticks, about two seconds.
+-- No code is computed, as no case reads one.
+use mathlib.Core.Path.{refl}
+use Rattle.analog.specs.Answers.{firstNo, answered}
+use Rattle.pmc330_model.specs.Map.{wordAt, classOf}
+use Rattle.pmc330_model.specs.Words.{joined, heldWord, readWord, writtenWord, withWord}
+use Rattle.pmc330_model.specs.Questions.{writeQuestions, callQuestions}
+use Rattle.pmc330_model.specs.Board.{stored, begun, ticked, advanced, storesIn, started, afterWrite, afterCall, valueOfCall, boardCall, boardFrom, answersFrom}
+use Rattle.pmc330_model.specs.Bench.{BenchCases}
+
+pub benchCases : BenchCases
+unfolding firstNo answered wordAt classOf joined heldWord readWord writtenWord withWord writeQuestions callQuestions stored begun ticked advanced storesIn started afterWrite afterCall valueOfCall boardCall boardFrom answersFrom
+benchCases = (refl, (refl, (refl, (refl, (refl, (refl, (refl, (refl, (refl, (refl, tt))))))))))

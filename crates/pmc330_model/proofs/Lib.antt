@@ -1,0 +1,17 @@
+pub mod Cases
+pub mod Schedule
+pub mod Agreement
+pub mod Memory
+pub mod Due
+pub mod Begins
+pub mod Stores
+pub mod TickBegins
+pub mod Ticks
+pub mod Reading
+pub mod Related
+pub mod Starts
+pub mod Triggers
+pub mod Writes
+pub mod CallsAgree
+pub mod Theorems
+pub mod Bench

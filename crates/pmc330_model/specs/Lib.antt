@@ -1,0 +1,9 @@
+pub mod Map
+pub mod Words
+pub mod Schedule
+pub mod Calls
+pub mod Questions
+pub mod Board
+pub mod Logbook
+pub mod Sentences
+pub mod Bench
