@@ -14,4 +14,5 @@ pub mod Triggers
 pub mod Writes
 pub mod CallsAgree
 pub mod Theorems
+pub mod Jumps
 pub mod Bench

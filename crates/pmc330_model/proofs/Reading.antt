@@ -72,8 +72,8 @@ joined-same base f g (suc n) same =
 
 -- ---- the registers of the map
 
--- a slot is below 32 and a half below 2: the agreement is about no others
-abbrev Placed : Register → Type 0
+-- a slot is below 32, a half below 2 and a group of gains below 4: the agreement is about no others
+abbrev pub Placed : Register → Type 0
 Placed unmapped = Unit
 Placed interrupt = Unit
 Placed control = Unit
@@ -83,7 +83,7 @@ Placed channels = Unit
 Placed startConvert = Unit
 Placed (newData half) = half < 2
 Placed (missedData half) = half < 2
-Placed (gain group) = Unit
+Placed (gain group) = group < 4
 Placed (mailbox slot) = slot < 32
 
 abbrev AllPlaced : List Register → Type 0
@@ -103,12 +103,12 @@ placed-word : (n : ℕ) → Placed (wordAt n)
 unfolding wordAt
 placed-word n =
     placed-either (ltb n 0x10) _ _ (λ low. placed-in lowWords n (omega arith))
-    (placed-either (ltb n 0x14) _ _ (λ low. tt)
+    (placed-either (ltb n 0x14) _ _ (λ low. omega (arith, ltb-true n 0x14 low))
     (placed-either (ltb n 0x20) _ _ (λ low. tt)
     (placed-either (ltb n 0x40) _ _ (λ low. omega (arith, ltb-true n 0x40 low)) tt)))
 
 -- every register that an offset has is so
-placed : (offset : ℕ) → Placed (classOf offset)
+pub placed : (offset : ℕ) → Placed (classOf offset)
 unfolding classOf
 placed offset = placed-either (ltb (offset % 4) 2) _ _ (λ live. placed-word (offset / 4)) tt
 

@@ -77,13 +77,24 @@ leadAfter r ends =
     (cond (isUniform r) (interval r) (120 + cond ends (burstDelay r) 0))
     0
 
+-- the cycle after the next conversion has begun: its store 64 ticks later, its slot, and the place and parity of the one after it
+abbrev pub begunCycle : Registers → Cycle → Cycle
+begunCycle r c =
+    let ends : Bool = leb (passLength r) (c .index + 1) in
+    record {
+      running = c .running;
+      lead = leadAfter r ends;
+      lag = 64;
+      waiting = true;
+      slot = (r .start + c .index + cond (isDifferential r && c .odd) 16 0) % 32;
+      ends = ends;
+      index = cond ends 0 (c .index + 1);
+      odd = cond ends (not (c .odd)) (c .odd);
+    }
+
 -- the next conversion begins: "It takes its code when it begins; it is stored .. 64 ticks later"
 unfoldable pub begun : Board → Board
 begun b =
-    let r : Registers = b .registers in
-    let c : Cycle = b .cycle in
-    let channel : ℕ = (r .start + c .index) % 32 in
-    let ends : Bool = leb (passLength r) (c .index + 1) in
     record {
       range = b .range;
       inputs = b .inputs;
@@ -91,27 +102,15 @@ begun b =
       codes = b .codes;
       unread = b .unread;
       pending = b .pending;
-      registers = r;
-      held = codeAt (b .range) r (b .gains) (b .inputs) channel;
-      cycle =
-          record {
-            running = c .running;
-            lead = leadAfter r ends;
-            lag = 64;
-            waiting = true;
-            slot = (r .start + c .index + cond (isDifferential r && c .odd) 16 0) % 32;
-            ends = ends;
-            index = cond ends 0 (c .index + 1);
-            odd = cond ends (not (c .odd)) (c .odd);
-          };
+      registers = b .registers;
+      held = codeAt (b .range) (b .registers) (b .gains) (b .inputs) ((b .registers .start + b .cycle .index) % 32);
+      cycle = begunCycle (b .registers) (b .cycle);
     }
 
--- the store of the conversion in progress; "Single modes have k below m; the board is idle from the last store."
-abbrev pub storedInTime : Board → Board
-storedInTime b =
-    let c : Cycle = b .cycle in
-    withCycle (stored (c .slot) (c .ends) b)
-    (cond (isSingle (b .registers) && c .ends) idleCycle
+-- the cycle after its conversion in progress is stored; "Single modes have k below m; the board is idle from the last store."
+abbrev pub storedCycle : Registers → Cycle → Cycle
+storedCycle r c =
+    cond (isSingle r && c .ends) idleCycle
     (record {
       running = c .running;
       lead = c .lead;
@@ -121,7 +120,11 @@ storedInTime b =
       ends = c .ends;
       index = c .index;
       odd = c .odd;
-    }))
+    })
+
+-- the store of the conversion in progress
+abbrev pub storedInTime : Board → Board
+storedInTime b = withCycle (stored (b .cycle .slot) (b .cycle .ends) b) (storedCycle (b .registers) (b .cycle))
 
 -- one tick passes in the cycle
 abbrev pub elapsed : Cycle → Cycle

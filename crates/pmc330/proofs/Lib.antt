@@ -1,0 +1,10 @@
+pub mod Classes
+pub mod WidthLaws
+pub mod CycleLaws
+pub mod TimeLaws
+pub mod SpanLaws
+pub mod QuestionLaws
+pub mod WordLaws
+pub mod ReplyLaws
+pub mod StartLaws
+pub mod AccessLaws

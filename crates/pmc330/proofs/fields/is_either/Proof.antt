@@ -1,0 +1,13 @@
+-- The two tests are those of the promise.
+use borrow.Author.Tests.{eq-eqb, ne-eqb, not-true, not-false}
+use Rattle.pmc330.proofs.fields.is_either.Statement.{statement}
+use Rattle.pmc330.proofs.fields.is_either.Tie as tie
+
+returns : tie.Need-returns
+returns c = simp (eq-eqb _ _ (c .if1 .taken))
+
+returns-2 : tie.Need-returns-2
+returns-2 c = simp (ne-eqb _ _ (c .if1 .left))
+
+pub is-either-spec : {M : Type 1} → statement M
+is-either-spec = tie.close (tie.spec returns returns-2)

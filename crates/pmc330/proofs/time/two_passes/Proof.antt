@@ -1,0 +1,94 @@
+-- The products fit 64 bits.
+use borrow.Author.Needs.{needs}
+use Prim.Native.Nat.{_*_, _≤_}
+use native.Mathlib.Nat.{mul-le-mul}
+use native.Mathlib.Omega.{arith}
+use Rattle.pmc330.proofs.time.two_passes.Statement.{statement}
+use Rattle.pmc330.proofs.time.two_passes.Tie as tie
+
+is-single-requires : tie.Need-is-single-requires
+is-single-requires c κs = search needs
+
+returns : tie.Need-returns
+returns c = search needs
+
+pass-length-requires : tie.Need-pass-length-requires
+pass-length-requires c κs = search needs
+
+cast-length : tie.Need-cast-length
+cast-length c = search needs
+
+is-uniform-requires : tie.Need-is-uniform-requires
+is-uniform-requires c κs = search needs
+
+interval-of-requires : tie.Need-interval-of-requires
+interval-of-requires c κs = search needs
+
+cast-result : tie.Need-cast-result
+cast-result c = search needs
+
+-- a pass is at most 256 conversions, an interval a byte times 16 bits
+product-most : (c : tie.After-interval-of) → c .before .before .before .pass-length .result * c .interval-of .result ≤ 256 * 16_711_425
+product-most c =
+    let start = c .before .before .before .before .before .before in
+    let byte : start .args .r .prescaler ≤ 255 = omega (arith, start .good) in
+    let word : start .args .r .timer ≤ 65535 = omega (arith, start .good) in
+    let length : c .before .before .before .pass-length .result ≤ 256 = omega (arith, start .good, c .before .before .before .pass-length .ensures) in
+    let interval : c .interval-of .result ≤ 255 * 65535 = rw (c .interval-of .ensures) (mul-le-mul byte word) in
+    mul-le-mul length interval
+
+mul-result : tie.Need-mul-result
+mul-result c = omega (arith, product-most c)
+
+mul-result-2 : tie.Need-mul-result-2
+mul-result-2 c = omega (arith, product-most c)
+
+returns-2 : tie.Need-returns-2
+returns-2 c = search needs
+
+is-burst-requires : tie.Need-is-burst-requires
+is-burst-requires c κs = search needs
+
+mul-result-3 : tie.Need-mul-result-3
+mul-result-3 c = search needs
+
+burst-delay-requires : tie.Need-burst-delay-requires
+burst-delay-requires c κs = search needs
+
+cast-result-2 : tie.Need-cast-result-2
+cast-result-2 c = search needs
+
+add-result : tie.Need-add-result
+add-result c = search needs
+
+mul-result-4 : tie.Need-mul-result-4
+mul-result-4 c = search needs
+
+returns-3 : tie.Need-returns-3
+returns-3 c = search needs
+
+returns-4 : tie.Need-returns-4
+returns-4 c = search needs
+
+pub two-passes-spec : {M : Type 1} → statement M
+two-passes-spec =
+    tie.close
+    (tie.spec
+    is-single-requires
+    returns
+    pass-length-requires
+    cast-length
+    is-uniform-requires
+    interval-of-requires
+    cast-result
+    mul-result
+    mul-result-2
+    returns-2
+    is-burst-requires
+    mul-result-3
+    burst-delay-requires
+    cast-result-2
+    add-result
+    mul-result-4
+    returns-3
+    returns-4)

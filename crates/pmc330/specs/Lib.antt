@@ -1,0 +1,4 @@
+pub mod Classes
+pub mod Widths
+pub mod Steps
+pub mod Asked
