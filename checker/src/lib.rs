@@ -1,8 +1,21 @@
 //! The other program: a virtual PMC330 made from 01-scope.md and the manuals alone, to be compared
 //! with the archive. Nothing here is taken from the product's own definitions or code.
 
+// A remainder is as plain as `is_multiple_of`, and older compilers know it.
+#![allow(clippy::manual_is_multiple_of)]
+
 pub mod analog;
 pub mod archive;
+pub mod board;
+pub mod call;
+pub mod cases;
 pub mod coverage;
 pub mod fraction;
+pub mod generator;
+pub mod logbook;
+pub mod made_up;
+pub mod moments;
 pub mod random;
+pub mod registers;
+pub mod script;
+pub mod trace;

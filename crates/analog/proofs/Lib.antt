@@ -1,4 +1,3 @@
-pub mod Bench
 pub mod Questions
 pub mod Integers
 pub mod Ranges

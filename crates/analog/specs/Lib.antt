@@ -1,5 +1,4 @@
 pub mod Answers
 pub mod Code
 pub mod Correction
-pub mod Bench
 pub mod Machine

@@ -1,7 +1,8 @@
--- The starred bench cases on the schedule and on the questions hold, by computation: some 9,000 single ticks, about two seconds.
--- No code is computed, as no case reads one.
+-- The starred bench cases hold, by computation: among them some 9,000 single ticks, about two seconds.
 use mathlib.Core.Path.{refl}
 use Rattle.analog.specs.Answers.{firstNo, answered}
+use Rattle.analog.specs.Code.{codeOf, inFormat}
+use Rattle.analog.specs.Correction.{correctedCount, correctedAnswer}
 use Rattle.pmc330_model.specs.Map.{wordAt, classOf}
 use Rattle.pmc330_model.specs.Words.{joined, heldWord, readWord, writtenWord, withWord}
 use Rattle.pmc330_model.specs.Questions.{writeQuestions, callQuestions}
@@ -9,5 +10,5 @@ use Rattle.pmc330_model.specs.Board.{stored, begun, ticked, advanced, st
 use Rattle.pmc330_model.specs.Bench.{BenchCases}
 
 pub benchCases : BenchCases
-unfolding firstNo answered wordAt classOf joined heldWord readWord writtenWord withWord writeQuestions callQuestions stored begun ticked advanced storesIn started afterWrite afterCall valueOfCall boardCall boardFrom answersFrom
-benchCases = (refl, (refl, (refl, (refl, (refl, (refl, (refl, (refl, (refl, (refl, tt))))))))))
+unfolding firstNo answered wordAt classOf joined heldWord readWord writtenWord withWord writeQuestions callQuestions stored begun ticked advanced storesIn started afterWrite afterCall valueOfCall boardCall boardFrom answersFrom codeOf inFormat correctedCount correctedAnswer
+benchCases = (refl, (refl, (refl, (refl, (refl, (refl, (refl, (refl, (refl, (refl, (refl, (refl, (refl, (refl, (refl, (refl, (refl, (refl, (refl, tt)))))))))))))))))))

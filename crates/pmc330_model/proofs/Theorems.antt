@@ -13,7 +13,7 @@ use Rattle.pmc330_model.specs.Calls.{Call, advance}
 use Rattle.pmc330_model.specs.Board.{newBoard, ticked, advanced, isStoreDue, storesIn, questionsOf, afterCall, valueOfCall, boardCall, newCall, advanceCall, boardFrom, answersFrom}
 use Rattle.pmc330_model.specs.Logbook.{Logbook, wasReset, idle, newLogbook, logged, loggedAnswer, loggedFrom, loggedAnswersFrom}
 use Rattle.pmc330_model.specs.Questions.{callQuestions}
-use Rattle.pmc330_model.specs.Sentences.{Sentence1, NewBoardRefused, Sentence3, EveryList3, EveryAnswer, Joined, sumOf, boardAfterAdvances, valueOfAdvances, AllJoined}
+use Rattle.pmc330_model.specs.Sentences.{Sentence3, EveryCall1, EveryNew1, EveryAnswer, EveryList3, EveryPair, EveryAdvances, sumOf, boardAfterAdvances, valueOfAdvances}
 use Rattle.pmc330_model.specs.declared.Board.{Board}
 use Rattle.pmc330_model.proofs.Agreement.{bookOf, Agrees, Related}
 use Rattle.pmc330_model.proofs.CallsAgree.{answer-same, call-agrees}
@@ -35,7 +35,7 @@ refused-value : (questions : List Question) (value : ℕ) → firstNo questions 
 unfolding answered
 refused-value questions value n = rw (ne-eqb (firstNo questions) 0 n)
 
-pub sentence1 : (b : Board) (call : Call) → Sentence1 b call
+pub sentence1 : EveryCall1
 unfolding boardCall
 sentence1 b call =
     record {
@@ -47,11 +47,12 @@ sentence1 b call =
     no-question : numberOf (answered (questionsOf b call) (valueOfCall b call)) ≢ 0 → firstNo (questionsOf b call) ≢ 0
     no-question refused e = refused (answered-number (questionsOf b call) (valueOfCall b call) ∙ e)
 
-pub newBoardRefused : (range : ℕ) → NewBoardRefused range
+pub newBoards : EveryNew1
 unfolding answered firstNo
-newBoardRefused range =
+newBoards range =
     record {
       accepted = λ h. rw (le-leb range 3 h);
+      made = λ h. ap (λ (t : Bool). newBoard (cond t range 0)) (le-leb range 3 h);
       number = λ h. rw (lt-leb range 3 h);
       value = no-value (leb range 3);
       board = λ h. ap (λ (t : Bool). newBoard (cond t range 0)) (lt-leb range 3 h);
@@ -131,7 +132,7 @@ module _ (b : Board) (n : ℕ) (most : n ≤ 16_777_216) where
   unfolding boardCall callQuestions firstNo answered valueOfCall
   accepted-value = rw (le-leb n 16_777_216 most)
 
-pub advanceJoins : (b : Board) (n k : ℕ) → n + k ≤ 16_777_216 → Joined b n k
+pub advanceJoins : EveryPair
 advanceJoins b n k most =
     record {
       board =
@@ -146,7 +147,7 @@ advanceJoins b n k most =
           ∙ sym (accepted-value b (n + k) most);
     }
 
-pub advancesJoin : (ns : List ℕ) (b : Board) → sumOf ns ≤ 16_777_216 → AllJoined b ns
+pub advancesJoin : EveryAdvances
 unfolding sumOf boardAfterAdvances valueOfAdvances advanced storesIn
 advancesJoin [] b most =
     record {

@@ -1,8 +1,11 @@
--- Document 01, "Bench cases": the cases marked * on the schedule and on the questions, as one table with one claim.
--- Those on codes and on the correction are crate analog's.
+-- Document 01, "Bench cases": the cases marked *, as one table with one claim.
 use Prim.Native.Nat.{ℕ}
+use mathlib.Core.Bool.{Bool, true, false}
 use mathlib.Core.List.{List, [], _∷_, _++_}
 use mathlib.Core.Path.{_≡_}
+use lib.IntN.{ℤ, pos, negℤ}
+use Rattle.analog.specs.Code.{codeOf, inFormat}
+use Rattle.analog.specs.Correction.{correctedAnswer}
 use Rattle.analog.specs.declared.Answer.{Answer}
 use Rattle.analog.specs.declared.Answer.the-variants.{Accepted, Refused}
 use Rattle.pmc330_model.specs.Schedule.{interval}
@@ -29,16 +32,22 @@ abbrev pub expectedOf : List Step → List Answer
 expectedOf [] = []
 expectedOf (step ∷ steps) = step .answer ∷ expectedOf steps
 
--- what is to hold of calls on a new board of range 1
 pub data Case : Type 0 where
-  -- their answers
+  -- the answers of calls on a new board of range 1
   answers : List Step → Case
   -- I after them
   intervalIs : (expected : ℕ) → List Step → Case
+  -- the code of a voltage in a format
+  codeIs : (range gain : ℕ) (v : ℤ) (straight : Bool) (expected : ℕ) → Case
+  -- the corrected count of a raw code
+  correctedTo : (range gain high low highSum lowSum raw expected : ℕ) → Case
 
 abbrev pub Holds : Case → Type 0
 Holds (answers steps) = answersOf 1 (callsOf steps) ≡ expectedOf steps
 Holds (intervalIs expected steps) = interval (boardAfter 1 (callsOf steps) .registers) ≡ expected
+Holds (codeIs range gain v straight expected) = inFormat straight (codeOf range gain v) ≡ expected
+Holds (correctedTo range gain high low highSum lowSum raw expected) =
+    correctedAnswer range gain high low highSum lowSum raw ≡ Accepted expected
 
 abbrev pub AllHold : List Case → Type 0
 AllHold [] = Unit
@@ -161,6 +170,18 @@ cases =
     ∷ answers (tooFast 0x0a01)
     ∷ answers lastPair
     ∷ answers noPair
+    -- "Range 1, gain 1: 0 uV 8000H; -1 uV 7FFFH, FFFFH in two's complement; 10,000,000 uV FFFFH."
+    ∷ codeIs 1 0 (pos 0) true 0x8000
+    ∷ codeIs 1 0 (negℤ (pos 1)) true 0x7fff
+    ∷ codeIs 1 0 (negℤ (pos 1)) false 0xffff
+    ∷ codeIs 1 0 (pos 10_000_000) true 0xffff
+    -- "Range 3, gain 8: 612,500 uV 32112; 1,225,000 uV 64225."
+    ∷ codeIs 3 3 (pos 612_500) true 32112
+    ∷ codeIs 3 3 (pos 1_225_000) true 64225
+    -- "Those two as sums 1,027,584 and 2,055,200: raw 32112 becomes 32113, 64225 stays, 0 becomes 1."
+    ∷ correctedTo 3 3 0b101 0b110 2_055_200 1_027_584 32112 32113
+    ∷ correctedTo 3 3 0b101 0b110 2_055_200 1_027_584 64225 64225
+    ∷ correctedTo 3 3 0b101 0b110 2_055_200 1_027_584 0 1
     ∷ []
 
 -- the claim that `benchCases` proves

@@ -1,14 +1,14 @@
 -- The board's own step for each call. It keeps relative times; that they agree with document 01's schedule is sentence 3.
 -- Every definition is total on every Board value: slots and channels count by their remainder by 32.
-use Prim.Native.Nat.{ℕ, zero, suc, _+_, _-_, _*_, _/_, _%_, min}
+use Prim.Native.Nat.{ℕ, zero, suc, _+_, _-_, _%_, min}
 use mathlib.Core.Bool.{Bool, true, false, cond, not, _&&_, _||_}
 use mathlib.Core.List.{List, [], _∷_}
-use lib.Dec.{eqb, ltb, leb}
+use lib.Dec.{eqb, leb}
 use lib.IntN.{ℤ, pos}
 use lib.ListN.{getD, set, replicate}
-use Rattle.analog.specs.Answers.{Question, question, firstNo, answered, valueOf}
+use Rattle.analog.specs.Answers.{Question, question, firstNo, answered}
 use Rattle.analog.specs.declared.Answer.{Answer}
-use Rattle.pmc330_model.specs.Map.{Register, ifMailbox, classOf, triggerField, scanField}
+use Rattle.pmc330_model.specs.Map.{Register, ifMailbox, classOf, triggerField}
 use Rattle.pmc330_model.specs.Words.{View, readWord, readBytes, withWord, gainsWith, isRelease, isStop, isStart}
 use Rattle.pmc330_model.specs.Schedule.{passLength, interval, isDifferential, isUniform, isBurst, isSingle, isTimed, isTriggerOnly, codeAt, formattedBy, isInterrupting, burstDelay}
 use Rattle.pmc330_model.specs.Calls.{Call, read, write, input, advance, trigger, reset}
@@ -140,7 +140,7 @@ elapsed c =
       odd = c .odd;
     }
 
--- in this tick the conversion in progress is stored; the next one begins
+-- in the tick to come the conversion in progress is stored; the next one begins
 abbrev pub isStoreDue : Board → Bool
 isStoreDue b = b .cycle .running && isTimed (b .registers) && eqb (b .cycle .lag) 1
 

@@ -1,11 +1,11 @@
 -- Document 01, "The logbook": a definition, fed the new board's range and then the calls with their arguments in order,
 -- nothing else. Its numbers have no bound. It knows nothing of the board's own state.
-use Prim.Native.Nat.{ℕ, zero, suc, _+_, _-_, _*_, _/_, _%_}
-use mathlib.Core.Bool.{Bool, true, false, cond, not, _&&_, _||_}
+use Prim.Native.Nat.{ℕ, zero, suc, _+_, _-_}
+use mathlib.Core.Bool.{Bool, true, false, cond, _&&_, _||_}
 use mathlib.Core.List.{List, [], _∷_}
-use lib.Dec.{eqb, ltb, leb}
+use lib.Dec.{eqb, leb}
 use lib.IntN.{ℤ, pos}
-use lib.ListN.{getD, set, replicate, length}
+use lib.ListN.{set, replicate, length}
 use Rattle.analog.specs.Answers.{Question, firstNo, answered}
 use Rattle.analog.specs.declared.Answer.{Answer}
 use Rattle.pmc330_model.specs.Map.{Register, ifMailbox, classOf, triggerField}
@@ -16,6 +16,7 @@ use Rattle.pmc330_model.specs.Questions.{callQuestions, resultingWord, h
 use Rattle.pmc330_model.specs.declared.Registers.{Registers}
 
 -- "Releases and cycle starts are events; so is each store, with slot, formatted code and whether it interrupts."
+-- `wasReset` and `wasRead` are 01's events reset and read
 pub data Event : Type 0 where
   wasReset cycleStart release : Event
   wasRead : (slot : ℕ) → Event
@@ -52,7 +53,7 @@ opened range inputs earlier =
       events = wasReset ∷ earlier;
     }
 
--- ---- what the events say
+-- ---- what the events say, in the words of the buyer's sentence 3
 
 -- "Each mailbox holds the code of the last store made there since the last reset, 0 if none."
 unfoldable pub lastStore : (slot : ℕ) → List Event → ℕ
@@ -140,8 +141,8 @@ storesInTime k l =
     (cond (isSingle (l .registers) && endsPass (l .registers) k) idle (l .cycle))
     (stores k l .events)
 
--- the conversion of the schedule whose beginning, and then a delay, fall on the logbook's tick.
--- No conversion begins before tick T + k, so that the numbers up to the tick are enough to search
+-- the conversion k of the schedule with T + its beginning + delay = tick, if any.
+-- Question 10 sees to it that conversion k begins at T + k or later, so that the numbers up to the tick are enough to search
 unfoldable pub dueAfter : (delay : ℕ) → Registers → (tick : ℕ) → Running → Due
 dueAfter delay r tick idle = none
 dueAfter delay r tick (since T triggers) =
@@ -162,6 +163,7 @@ beginsDue l = ifDue (dueAfter 0 (l .registers) (l .tick) (l .cycle)) begins l
 unfoldable pub tickPasses : Logbook → Logbook
 tickPasses l = beginsDue (storesDue (withHappened l (suc (l .tick)) (l .taken) (l .cycle) (l .events)))
 
+-- "An advance from tick t handles ticks t+1 to t+n"
 unfoldable pub ticksPass : (n : ℕ) → Logbook → Logbook
 ticksPass zero l = l
 ticksPass (suc n) l = ticksPass n (tickPasses l)
@@ -186,9 +188,11 @@ storesBefore (suc k) l = stores k l
 abbrev pub takes : (T : ℕ) (triggers : List ℕ) → Logbook → Logbook
 takes T triggers l =
     let j : ℕ = length triggers in
-    let taken : Logbook = begins j (storesBefore j l) in
-    withHappened taken (l .tick) (taken .taken) (since T (l .tick ∷ triggers)) (taken .events)
+    let after : Logbook = begins j (storesBefore j l) in
+    withHappened after (l .tick) (after .taken) (since T (l .tick ∷ triggers)) (after .events)
 
+-- idle: "in scan 001 to 100 by a trigger while idle with trigger field 01, if questions 9 and 10 are met"; "An unarmed trigger
+-- does nothing." Running: taken if armed, else "accepted and ignored"
 abbrev pub triggeredIn : Running → Logbook → Logbook
 triggeredIn idle l =
     cond (isTimed (l .registers) && hasChannels (l .registers) && hasInterval (l .registers)) (starts l) l

@@ -50,7 +50,7 @@ isMapped (missedData half) = true
 isMapped (gain group) = true
 isMapped (mailbox slot) = true
 
--- New Data, Missed Data and the mailboxes are "read only"
+-- New Data, Missed Data and the mailboxes are "read only". What is unmapped is refused by question 3, before this is asked
 abbrev pub isWritable : Register → Bool
 isWritable unmapped = true
 isWritable interrupt = true
@@ -173,7 +173,8 @@ ifMailbox (mailbox slot) this otherwise = this slot
 abbrev pub isReadable : Register → Bool
 isReadable register = ifStartConvert register false true
 
--- 04H Control, field by field
+-- 04H Control, field by field: "bit 0 format (1 straight binary, 0 two's complement); bits 2-1 trigger ..; bits 5-3 acquisition ..;
+-- bits 10-8 scan ..; bit 11 timer enable; bits 13-12 interrupt .."
 abbrev pub isStraight : ℕ → Bool
 isStraight word = eqb (word % 2) 1
 

@@ -1,10 +1,10 @@
 -- Document 01, "Questions asked of a call, in order".
 -- They are asked of the registers, the gains and whether the board is idle, so that the board and the logbook can both answer them.
-use Prim.Native.Nat.{ℕ, _+_, _-_, _*_, _/_, _%_, _^_}
+use Prim.Native.Nat.{ℕ, _/_, _%_, _^_}
 use mathlib.Core.Bool.{Bool, true, false, cond, not, _&&_, _||_}
-use mathlib.Core.List.{List, [], _∷_, _++_}
+use mathlib.Core.List.{List, [], _∷_}
 use lib.Dec.{eqb, ltb, leb}
-use lib.IntN.{ℤ, pos, negℤ}
+use lib.IntN.{pos, negℤ}
 use lib.Signed.{leZ}
 use Rattle.analog.specs.Answers.{Question, question}
 use Rattle.pmc330_model.specs.Map.{Register, classOf, isMapped, isReadable, isWritable, ifInterrupt, ifControl, ifChannels, ifStartConvert, triggerField, acquisitionField, scanField, isTimerEnabled, interruptField}
@@ -39,6 +39,7 @@ hasUsedCodes word =
     && not (eqb (interruptField word) 3)
 
 -- 7. "Does the resulting Control hold no not-used code, and are the resulting Start and End Channel (10H only) at most 31?"
+-- Every other write meets it
 abbrev pub isValid : Register → (resulting : Registers) → Bool
 isValid register resulting =
     ifControl register (hasUsedCodes (resulting .control))

@@ -2,14 +2,14 @@
 use Prim.Native.Nat.{ℕ, zero, suc, _+_, _-_, _*_, _/_, _%_}
 use mathlib.Core.Bool.{Bool, true, false, cond, not, _&&_, _||_}
 use mathlib.Core.List.{List}
-use lib.Dec.{eqb, ltb, leb}
+use lib.Dec.{eqb, ltb}
 use lib.IntN.{ℤ, pos}
 use lib.ListN.{getD}
 use Rattle.analog.specs.Code.{calibrationOf, codeOf, inFormat}
 use Rattle.pmc330_model.specs.Map.{isStraight, acquisitionField, scanField, isTimerEnabled, interruptField}
 use Rattle.pmc330_model.specs.declared.Registers.{Registers}
 
--- "m = End - Start + 1"
+-- "m = End - Start + 1", the difference at least 0
 abbrev pub passLength : Registers → ℕ
 passLength r = r .end - r .start + 1
 

@@ -1,6 +1,6 @@
 -- Document 01, "Register map": what the words hold, and what a read or a write of any width covers of them.
 use Prim.Native.Nat.{ℕ, zero, suc, _+_, _-_, _*_, _/_, _%_, _^_}
-use mathlib.Core.Bool.{Bool, true, false, cond, _&&_}
+use mathlib.Core.Bool.{Bool, false, cond, _&&_}
 use mathlib.Core.List.{List}
 use lib.Dec.{eqb, ltb, leb}
 use lib.ListN.{getD, set}
@@ -27,7 +27,7 @@ pub record View : Type 0 where
   pub isMissed : (slot : ℕ) → Bool
   pub pending : Bool
 
--- the bits of a word that a write sets
+-- the word as the registers hold it, of which a narrow write keeps the other byte
 unfoldable pub heldWord : Registers → (gains : List ℕ) → Register → ℕ
 heldWord r gains unmapped = 0
 -- "bit 0 board enable"
@@ -38,6 +38,7 @@ heldWord r gains prescaler = r .prescaler * 0x100
 heldWord r gains timer = r .timer
 -- "low byte Start Channel, high byte End Channel"
 heldWord r gains channels = r .start + r .end * 0x100
+-- Start Convert holds nothing: a byte write to 25H never sets bit 0
 heldWord r gains startConvert = 0
 heldWord r gains (newData half) = 0
 heldWord r gains (missedData half) = 0

@@ -1,0 +1,808 @@
+//! Cases typed in from 01 and from MANUALS.md, as lists of calls with the answers expected. That a
+//! board is idle is seen by a write to 0CH: a busy one refuses it with 6.
+
+use crate::script::{steps, Step};
+
+pub struct Case {
+    pub name: &'static str,
+    pub range: u8,
+    pub script: &'static str,
+}
+
+impl Case {
+    pub fn steps(&self) -> Vec<Step> {
+        steps(self.script)
+    }
+}
+
+const fn case(name: &'static str, range: u8, script: &'static str) -> Case {
+    Case {
+        name,
+        range,
+        script,
+    }
+}
+
+/// Every case of this file.
+pub fn all() -> impl Iterator<Item = &'static Case> {
+    let groups = [
+        BENCH,
+        MISTAKES,
+        TIMER,
+        EXAMPLES,
+        OTHERS,
+        OPEN_POINTS,
+        QUESTIONS,
+        SCHEDULE,
+    ];
+    groups.into_iter().flatten()
+}
+
+/// The bench cases of 01 that concern the board, starred and unstarred, and its trace example.
+pub const BENCH: &[Case] = &[
+    case(
+        "0A09H, 0D03H, I = 640: channel 3 stored at 704, 13 at 7104",
+        1,
+        "
+        write 16 04H 0A09H; write 16 10H 0D03H; write 8 09H 80; write 16 0CH 8; write 16 24H 1
+        advance 703; advance 1 = 1; read 16 14H = 0008H
+        advance 6399 = 9; read 16 14H = 1FF8H; write 16 0CH 8 refused 6
+        advance 1 = 1; read 16 14H = 3FF8H; write 16 0CH 8
+        ",
+    ),
+    case(
+        "0401H, 0300H: stores at 64, 184, 304, 424",
+        1,
+        "
+        write 16 04H 0401H; write 16 10H 0300H; write 16 24H 1
+        advance 63; advance 1 = 1; advance 119; advance 1 = 1
+        advance 119; advance 1 = 1; advance 119; write 16 0CH 0 refused 6
+        advance 1 = 1; write 16 0CH 0; read 16 14H = 000FH; advance 100,000
+        ",
+    ),
+    case(
+        "0301H, 0000H: slot 0 at 64, slot 16 at 184, slot 0 at 304 with Missed bit 0",
+        1,
+        "
+        write 16 04H 0301H; write 16 10H 0000H; write 16 24H 1
+        advance 63; advance 1 = 1; read 16 14H = 0001H; read 16 18H = 0000H
+        advance 119; advance 1 = 1; read 16 14H = 0001H; read 16 18H = 0001H
+        read 16 1CH = 0000H; read 16 20H = 0000H
+        advance 119; advance 1 = 1; read 16 14H = 0001H; read 16 18H = 0001H
+        read 16 1CH = 0001H; read 16 20H = 0000H
+        ",
+    ),
+    case(
+        "uniform continuous, 64 x 1 starts; 63 x 1 gives 10",
+        1,
+        "
+        write 16 04H 0909H; write 8 09H 63; write 16 0CH 1; write 16 24H 1 refused 10
+        write 8 09H 64; write 16 24H 1; write 16 0CH 1 refused 6; advance 127; advance 1 = 1
+        ",
+    ),
+    case(
+        "uniform single, 64 x 1 starts; 63 x 1 gives 10",
+        1,
+        "
+        write 16 04H 0A09H; write 8 09H 63; write 16 0CH 1; write 16 24H 1 refused 10
+        write 8 09H 64; write 16 24H 1; write 16 0CH 1 refused 6; advance 127; advance 1 = 1
+        ",
+    ),
+    case(
+        "differential End 15 starts; 16 gives 9",
+        1,
+        "
+        write 16 04H 0401H; write 16 10H 1000H; write 16 24H 1 refused 9
+        write 16 10H 0F00H; write 16 24H 1; write 16 24H 1 refused 6
+        ",
+    ),
+    case(
+        "range 1, gain 1: 0, -1 and 10,000,000 uV in both formats",
+        1,
+        "
+        input 0 0; input 1 -1; input 2 10,000,000; write 16 10H 0200H
+        write 16 04H 0409H; write 16 24H 1; advance 304 = 3
+        read 16 80H = 8000H; read 16 84H = 7FFFH; read 16 88H = FFFFH
+        write 16 04H 0408H; write 16 24H 1; advance 304 = 3
+        read 16 80H = 0000H; read 16 84H = FFFFH; read 16 88H = 7FFFH
+        ",
+    ),
+    case(
+        "range 3, gain 8: 612,500 uV 32112; 1,225,000 uV 64225",
+        3,
+        "
+        write 16 40H FFFFH; write 16 10H 0100H; input 0 612,500; input 1 1,225,000
+        write 16 04H 0409H; write 16 24H 1; advance 184 = 2
+        read 16 80H = 32112; read 16 84H = 64225
+        write 16 04H 0431H; write 16 24H 1; advance 184 = 2; read 16 80H to 84H = 32112
+        write 16 04H 0429H; write 16 24H 1; advance 184 = 2; read 16 80H to 84H = 64225
+        ",
+    ),
+    case(
+        "an external trigger 63 ticks after the last is ignored; 64 is taken",
+        1,
+        "
+        write 16 04H 050BH; write 16 10H 0100H; write 16 24H 1
+        trigger; advance 63; trigger; read 16 14H = 0000H
+        advance 1; trigger; read 16 14H = 0001H
+        advance 63; trigger; read 16 14H = 0001H
+        advance 1; trigger; read 16 14H = 0003H
+        ",
+    ),
+    case("the trace of seven lines", 1, SEVEN_CALLS),
+];
+
+/// "Range 1, calls: ..." of 01's section on traces, with the answers printed there.
+pub const SEVEN_CALLS: &str = "
+    write 16 10H 0000H; write 16 04H 0401H; write 16 24H 1; advance 64 = 1
+    read 16 14H = 0001H; read 16 80H = 8000H; read 16 14H = 0000H
+";
+
+/// "Mistakes to rule out."
+pub const MISTAKES: &[Case] = &[
+    case(
+        "clearing Missed when the New Data register is read",
+        1,
+        "
+        write 16 04H 0309H; write 16 10H 0000H; write 16 24H 1; advance 184 = 2
+        read 16 1CH = 0001H; read 16 14H = 0001H; read 16 1CH = 0001H
+        read 8 14H = 01H; read 32 14H = 00000001H; read 16 1CH = 0001H; read 16 14H = 0001H
+        read 16 80H = 8000H; read 16 1CH = 0000H; read 16 14H = 0000H
+        ",
+    ),
+    case(
+        "the second half used in a single mode",
+        1,
+        "
+        write 16 10H 0100H; write 8 09H 64; write 16 0CH 1
+        write 16 04H 0401H; write 16 24H 1; advance 184 = 2
+        write 16 24H 1; advance 184 = 2; read 16 14H = 0003H; read 16 18H = 0000H
+        write 16 04H 0A01H; write 16 24H 1; advance 192 = 2
+        write 16 24H 1; advance 192 = 2; read 16 14H = 0003H; read 16 18H = 0000H
+        read 16 1CH = 0000H; read 16 20H = 0000H; read 16 C0H to C4H = 0000H
+        ",
+    ),
+    case(
+        "taking the code at the store",
+        1,
+        "
+        write 16 10H 0000H; write 16 04H 0409H; write 16 24H 1   # burst: it begins at once
+        input 0 5,000,000; advance 64 = 1; read 16 80H = 8000H
+        input 0 0; write 16 04H 0A09H; write 8 09H 80; write 16 0CH 8; write 16 24H 1
+        advance 640; input 0 5,000,000; advance 64 = 1; read 16 80H = 8000H
+        input 0 0; write 16 04H 050BH; write 16 24H 1; trigger
+        input 0 5,000,000; advance 64; trigger; read 16 80H = 8000H
+        input 0 0; advance 64; trigger; read 16 80H = C000H
+        ",
+    ),
+    case(
+        "burst D counted from the group's beginning",
+        1,
+        "
+        write 16 04H 0B09H; write 16 10H 0100H; write 8 09H 80; write 16 0CH 8; write 16 24H 1
+        advance 64 = 1; advance 120 = 1
+        advance 759; advance 1 = 1   # 2 x 120 + 640 + 64 = 944
+        advance 119; advance 1 = 1; advance 759; advance 1 = 1
+        ",
+    ),
+    case(
+        "trigger-only triggers clearing bits",
+        1,
+        "
+        write 16 04H 050BH; write 16 10H 0100H; write 16 24H 1
+        trigger; advance 64; trigger; advance 64; trigger; read 16 14H = 0003H
+        advance 64; trigger; read 16 14H = 0003H; read 16 1CH = 0001H
+        advance 1; trigger; read 16 14H = 0003H; read 16 1CH = 0001H   # ignored
+        write 16 04H 000BH; trigger; read 16 14H = 0003H; read 16 1CH = 0001H
+        write 16 04H 050BH; trigger; read 16 14H = 0003H; read 16 1CH = 0001H   # not armed
+        ",
+    ),
+];
+
+/// MANUALS.md 4.2, the rows that 01 meets or departs from on purpose.
+pub const TIMER: &[Case] = &[
+    case(
+        "M001:651, 255 x 65,535 is I = 16,711,425",
+        1,
+        "
+        write 16 04H 0909H; write 8 09H FFH; write 16 0CH FFFFH; write 16 24H 1
+        advance 16,711,488; advance 1 = 1; advance 16,711,424; advance 1 = 1
+        ",
+    ),
+    case(
+        "M001:1115, 50H at 09H and 0008H at 0CH is I = 640",
+        1,
+        "
+        write 16 04H 0909H; write 8 09H 50H; write 16 0CH 0008H; write 16 24H 1
+        advance 703; advance 1 = 1; advance 639; advance 1 = 1
+        ",
+    ),
+    case(
+        "M001:626, 63 x 1 gives 10, but 32 x 2 starts",
+        1,
+        "
+        write 16 04H 0909H; write 8 09H 63; write 16 0CH 1; write 16 24H 1 refused 10
+        write 8 09H 32; write 16 0CH 2; write 16 24H 1; advance 128 = 1; advance 64 = 1
+        ",
+    ),
+    case(
+        "M001:112, 4 channels of a burst every 60 us; M001:114, 120 ticks apart",
+        1,
+        "
+        write 16 04H 0309H; write 16 10H 0300H; write 16 24H 1
+        advance 64 = 1; advance 119; advance 1 = 1; advance 240 = 2
+        advance 119; advance 1 = 1; read 16 1CH = 0001H; advance 480 = 4; advance 4800 = 40
+        ",
+    ),
+    case(
+        "M001:793, uniform, each store interrupts 8 us after the interval",
+        1,
+        "
+        write 16 04H 1909H; write 16 10H 0100H; write 8 09H 80; write 16 0CH 8; write 16 24H 1
+        advance 703; read 16 00H = 0; advance 1 = 1; read 16 00H = 2
+        write 16 00H 8000H; advance 639; read 16 00H = 0; advance 1 = 1; read 16 00H = 2
+        ",
+    ),
+    case(
+        "M001:821, burst, each store interrupts every 15 us",
+        1,
+        "
+        write 16 04H 1309H; write 16 10H 0200H; write 16 24H 1; advance 64 = 1
+        write 8 01H 80H; advance 119; read 16 00H = 0; advance 1 = 1; read 16 00H = 2
+        write 8 01H 80H; advance 119; read 16 00H = 0; advance 1 = 1; read 16 00H = 2
+        ",
+    ),
+    case(
+        "M001:823, group interrupt of a burst: 8 us after the last beginning, by 01",
+        1,
+        "
+        write 16 04H 2309H; write 16 10H 0300H; write 16 24H 1; advance 423 = 3
+        read 16 00H = 0; advance 1 = 1; read 16 00H = 2; write 8 01H 80H
+        advance 479 = 3; read 16 00H = 0; advance 1 = 1; read 16 00H = 2
+        ",
+    ),
+];
+
+/// MANUALS.md 4.3 and 4.4: programming examples 1 and 2.
+pub const EXAMPLES: &[Case] = &[
+    case(
+        "example 1, auto zero: 32 x 8000H, sum 1,048,576",
+        1,
+        "
+        write 16 04H 0439H; write 16 10H 1F00H; write 16 40H 0; write 16 44H 0
+        write 16 48H 0; write 16 4CH 0; advance 40; write 16 24H 0001H
+        advance 3783 = 31; write 16 0CH 0 refused 6; advance 1 = 1; write 16 0CH 0
+        read 16 14H to 18H = FFFFH; read 16 1CH to 20H = 0; read 16 80H to FCH = 8000H
+        read 16 14H to 20H = 0
+        write 16 04H 0419H; advance 40; write 16 24H 0001H; advance 3784 = 32
+        read 16 80H to FCH = 48824   # sum 1,562,368
+        ",
+    ),
+    case(
+        "example 1, four differential channels",
+        1,
+        "
+        input 0 0; input 1 2,500,000; input 2 -7,300,000; input 3 9,999,999
+        write 16 04H 0401H; write 16 10H 0300H; advance 40; write 16 24H 0001H
+        advance 63; advance 1 = 1; advance 120 = 1; advance 120 = 1; advance 119; advance 1 = 1
+        read 16 80H = 32768; read 16 84H = 40960; read 16 88H = 8847; read 16 8CH = 65535
+        ",
+    ),
+    case(
+        "example 2, calibration: sums 1,027,584 and 2,055,200",
+        3,
+        "
+        write 16 04H 0431H; write 16 10H 1F00H; write 16 40H FFFFH; write 16 44H FFFFH
+        write 16 48H FFFFH; write 16 4CH FFFFH; advance 40; write 16 24H 1; advance 3784 = 32
+        read 16 80H to FCH = 32112
+        write 16 04H 0429H; advance 40; write 16 24H 1; advance 3784 = 32
+        read 16 80H to FCH = 64225
+        ",
+    ),
+    case(
+        "example 2, eleven single ended channels",
+        3,
+        "
+        write 16 40H FFFFH; write 16 44H FFFFH
+        input 3 100,000; input 4 200,000; input 5 300,000; input 6 400,000; input 7 500,000
+        input 8 600,000; input 9 700,000; input 10 800,000; input 11 900,000
+        input 12 1,000,000; input 13 1,100,000
+        write 16 04H 0A09H; write 16 10H 0D03H; write 8 09H 50H; write 16 0CH 0008H
+        advance 40; write 16 24H 1; advance 7104 = 11; write 16 0CH 8
+        read 16 8CH = 5242; read 16 90H = 10485; read 16 94H = 15728; read 16 98H = 20971
+        read 16 9CH = 26214; read 16 A0H = 31457; read 16 A4H = 36700; read 16 A8H = 41943
+        read 16 ACH = 47185; read 16 B0H = 52428; read 16 B4H = 57671
+        ",
+    ),
+    case(
+        "4.4: 00FFH leaves channels 4 to 7 at gain 1",
+        3,
+        "
+        write 16 40H 00FFH; write 16 04H 0431H; write 16 10H 0700H
+        write 16 24H 1; advance 904 = 8; read 16 80H to 8CH = 32112; read 16 90H to 9CH = 4014
+        ",
+    ),
+];
+
+/// MANUALS.md 4.6, as far as it concerns the board.
+pub const OTHERS: &[Case] = &[
+    case(
+        "differential passes: channel c at 80H + 4c, second half from C0H",
+        1,
+        "
+        input 0 0; input 15 5,000,000; write 16 04H 0301H; write 16 10H 0F00H; write 16 24H 1
+        advance 1864 = 16; read 16 14H = FFFFH; read 16 18H = 0
+        input 15 -5,000,000; advance 1920 = 16; read 16 18H = FFFFH; read 16 1CH to 20H = 0
+        read 16 80H to B8H = 8000H; read 16 BCH = C000H
+        read 16 C0H to F8H = 8000H; read 16 FCH = 4000H
+        ",
+    ),
+    case(
+        "interrupt handler: 0000H, mailboxes, 8000H, 0001H",
+        1,
+        "
+        write 16 04H 1409H; write 16 00H 0001H; write 16 24H 1; advance 64 = 1
+        read 16 00H = 0003H; write 16 00H 0000H; read 16 00H = 0002H
+        read 16 80H = 8000H; read 16 00H = 0002H
+        write 16 00H 8000H; read 16 00H = 0000H; write 16 00H 0001H; read 16 00H = 0001H
+        ",
+    ),
+    case(
+        "external trigger only: n triggers give n - 1 stores; trigger m ends the group",
+        1,
+        "
+        write 16 04H 250BH; write 16 10H 0200H; write 16 24H 1
+        trigger; read 16 14H = 0; read 16 00H = 0; advance 64
+        trigger; read 16 14H = 1; read 16 00H = 0; advance 64
+        trigger; read 16 14H = 3; read 16 00H = 0; advance 64
+        trigger; read 16 14H = 7; read 16 00H = 2; write 8 01H 80H; advance 64
+        trigger; read 16 1CH = 1; read 16 00H = 0; advance 64
+        trigger; read 16 1CH = 3; read 16 00H = 0; advance 64
+        trigger; read 16 1CH = 7; read 16 00H = 2
+        ",
+    ),
+];
+
+/// MANUALS.md 2.6: the recommended reading of each point that calls can show. U23 to U26 are about
+/// traces (tests/traces.rs); U4, U5, U7, U14 and U15 cannot be seen; U27 is about the correction.
+pub const OPEN_POINTS: &[Case] = &[
+    case(
+        "U2 the value of a refused call is 0",
+        1,
+        "
+        write 16 0CH FFFFH; read 24 0CH refused 1; read 16 0DH refused 2; read 16 0EH refused 3
+        write 8 0CH 256 refused 4; read 16 24H refused 5; advance 16,777,217 refused 13
+        ",
+    ),
+    case(
+        "U3 a byte write to 25H never starts and is never refused as busy",
+        1,
+        "
+        write 16 04H 0409H; write 8 25H 1; write 8 25H FFH; advance 1000; write 16 0CH 0
+        write 16 24H 1; write 8 25H 1; write 8 24H 0; write 8 24H FEH; write 16 24H FFFEH
+        write 8 24H 1 refused 6; write 16 24H FFFFH refused 6; advance 64 = 1
+        write 8 25H 1; write 16 0CH 0; advance 1000   # the 1 written before is not kept
+        write 16 24H FFFFH; advance 64 = 1; write 8 24H 1; advance 64 = 1
+        ",
+    ),
+    case(
+        "U6 the low byte at 08H takes nothing, reads 0 and is refused with 6 while busy",
+        1,
+        "
+        write 8 08H FFH; read 16 08H = 0; write 16 08H 50FFH; read 16 08H = 5000H
+        read 8 08H = 0; read 8 09H = 50H; read 32 08H = 00005000H; write 8 08H 12H
+        read 16 08H = 5000H; write 16 04H 0409H; write 16 24H 1; write 8 08H 0 refused 6
+        ",
+    ),
+    case(
+        "U8 busy: not-used codes give 6 unless the scan is 000, and then 7",
+        1,
+        "
+        write 16 04H 0309H; write 16 24H 1; advance 64 = 1
+        write 16 04H 0609H refused 6; write 16 04H 0709H refused 6; write 16 04H 3309H refused 6
+        write 16 04H 3009H refused 7; write 16 04H 000FH refused 7; write 16 04H 0011H refused 7
+        advance 120 = 1; read 16 04H = 0309H; write 16 04H 0009H; advance 1000; read 16 04H = 9
+        ",
+    ),
+    case(
+        "U9 busy: a byte at 05H may stop, one at 04H never does",
+        1,
+        "
+        write 16 04H 0309H; write 16 24H 1
+        write 8 04H 00H refused 6; write 8 04H 09H refused 6; write 8 05H 03H refused 6
+        write 8 05H 30H refused 7; advance 64 = 1; write 8 05H 08H; advance 1000
+        read 16 04H = 0809H; write 16 0CH 0; write 8 04H 00H; read 16 04H = 0800H
+        ",
+    ),
+    case(
+        "U10 a trigger that doesn't meet 9 or 10 is accepted and ignored",
+        1,
+        "
+        write 16 04H 030BH; write 16 10H 0001H; trigger; write 16 0CH 1   # Start above End
+        write 16 04H 0303H; write 16 10H 1000H; trigger; write 16 0CH 1   # differential 16
+        write 16 10H 0000H; write 16 04H 010BH; write 8 09H 64; trigger; write 16 0CH 1 # no timer
+        write 16 04H 090BH; write 8 09H 63; trigger; write 16 0CH 1       # I = 63
+        write 16 04H 0B0BH; trigger; write 16 0CH 1                       # D = 63
+        write 8 09H 64; trigger; write 16 0CH 1 refused 6
+        ",
+    ),
+    case(
+        "U11 Start Convert arms with any trigger field; triggers are then ignored",
+        1,
+        "
+        write 16 04H 0509H; write 16 24H 1; write 16 0CH 1 refused 6
+        trigger; advance 64; trigger; advance 64; trigger; read 16 14H = 0
+        write 16 04H 0009H; write 16 04H 050DH; write 16 24H 1; write 16 0CH 1 refused 6
+        trigger; advance 64; trigger; advance 64; trigger; read 16 14H = 0
+        ",
+    ),
+    case(
+        "U12 64 ticks are counted inside the cycle, from the last trigger taken",
+        1,
+        "
+        write 16 04H 050BH; write 16 24H 1; trigger; advance 10; write 16 04H 000BH
+        write 16 04H 050BH; write 16 24H 1; trigger; advance 64; trigger; read 16 14H = 1
+        advance 63; trigger; read 16 1CH = 0; advance 1; trigger; read 16 1CH = 1
+        ",
+    ),
+    case(
+        "U13 arming is a cycle start: it clears New and Missed",
+        1,
+        "
+        write 16 04H 0309H; write 16 24H 1; advance 184 = 2; write 16 04H 0009H
+        read 16 14H = 1; read 16 1CH = 1
+        write 16 04H 0509H; read 16 14H = 1; write 16 24H 1; read 16 14H = 0; read 16 1CH = 0
+        ",
+    ),
+    case(
+        "U16, U17 the upper half of a 32-bit write is dropped, and no value is too great",
+        1,
+        "
+        write 32 0CH FFFFFFFFH; read 32 0CH = 0000FFFFH; write 32 04H FFFF1409H
+        read 16 04H = 1409H; write 32 24H 00010000H; write 16 0CH 0; advance 1000
+        write 32 24H 80000001H; write 32 24H 00010000H; advance 64 = 1; read 16 00H = 2
+        write 32 00H 80000000H; read 16 00H = 2; write 32 00H 00018000H; read 16 00H = 0
+        write 32 10H FF00FF00H refused 7; write 32 10H 00202020H refused 7; write 32 10H FFFF0101H
+        ",
+    ),
+    case(
+        "U18 Interrupt: bit 1 is not written; 8000H, 8001H and 80H at 01H release",
+        1,
+        "
+        write 16 00H 0002H; read 16 00H = 0; write 16 04H 1309H; write 16 24H 1; advance 64 = 1
+        write 16 00H 0001H; read 16 00H = 3; write 16 00H 0000H; read 16 00H = 2
+        write 16 00H 7FFDH; read 16 00H = 3; write 8 01H 7FH; read 16 00H = 3
+        write 16 00H 8000H; read 16 00H = 0; advance 120 = 1; write 16 00H 0001H
+        write 16 00H 8001H; read 16 00H = 1; advance 120 = 1; read 16 00H = 3
+        write 8 01H 80H; read 16 00H = 1; read 8 01H = 0; advance 120 = 1
+        write 8 00H 00H; read 16 00H = 2; write 8 00H FFH; read 16 00H = 3; read 8 00H = 3
+        ",
+    ),
+    case(
+        "U19 a mailbox before any store reads 0, in both formats",
+        1,
+        "
+        read 16 80H to FCH = 0; write 16 04H 0001H; read 16 80H to FCH = 0
+        write 16 04H 0400H; write 16 24H 1; advance 64 = 1; read 16 80H = 0; read 16 84H = 0
+        ",
+    ),
+    case(
+        "U20 an input set after a burst's start misses conversion 0",
+        1,
+        "
+        write 16 04H 0409H; write 16 10H 0100H; write 16 24H 1
+        input 0 5,000,000; input 1 5,000,000; advance 184 = 2
+        read 16 80H = 8000H; read 16 84H = C000H
+        ",
+    ),
+    case(
+        "U20 an input set at a beginning's tick misses that beginning",
+        1,
+        "
+        write 16 04H 0409H; write 16 10H 0100H; write 16 24H 1; advance 119 = 1
+        input 1 5,000,000; advance 1; input 1 -5,000,000; advance 64 = 1; read 16 84H = C000H
+        ",
+    ),
+    case(
+        "U21 a uniform scan begins at T + I, not at T",
+        1,
+        "
+        write 16 04H 0A09H; write 8 09H 80; write 16 0CH 8; write 16 24H 1
+        input 0 5,000,000; advance 64; advance 639; advance 1 = 1; read 16 80H = C000H
+        ",
+    ),
+    case(
+        "U22 a stop leaves New, Missed and pending, and a start leaves pending",
+        1,
+        "
+        write 16 04H 1309H; write 16 24H 1; advance 184 = 2; write 16 04H 1009H
+        read 16 14H = 1; read 16 1CH = 1; read 16 00H = 2; advance 1000; read 16 80H = 8000H
+        write 16 04H 0409H; write 16 24H 1; read 16 00H = 2; advance 64 = 1; read 16 00H = 2
+        ",
+    ),
+    case(
+        "a stop loses the conversion in flight",
+        1,
+        "
+        write 16 04H 1409H; write 16 24H 1; advance 63; write 16 04H 1009H; advance 1000
+        read 16 14H = 0; read 16 00H = 0; read 16 80H = 0
+        ",
+    ),
+    case(
+        "U28 a trigger that stores has value 0; U29 a release may find nothing pending",
+        1,
+        "
+        write 16 00H 8000H; write 16 04H 150BH; write 16 24H 1; trigger; advance 64; trigger
+        read 16 00H = 2; write 16 00H 8000H; write 16 00H 8000H; read 16 00H = 0
+        ",
+    ),
+    case(
+        "U30 calibration: End up to 31, and every pass in the same slots",
+        1,
+        "
+        write 16 04H 0339H; write 16 10H 1F1FH; write 16 24H 1; advance 184 = 2
+        read 16 18H = 8000H; read 16 20H = 8000H; read 16 14H = 0
+        write 16 04H 0039H; write 16 04H 0339H; write 16 10H 0000H; write 16 24H 1
+        advance 184 = 2; read 16 14H = 1; read 16 1CH = 1; read 16 18H = 0
+        ",
+    ),
+];
+
+/// Questions 1 to 13 of 01: each at the last call that meets it and the first that does not, and
+/// which is asked first.
+pub const QUESTIONS: &[Case] = &[
+    case(
+        "1, 2 and 3: width, offset, first byte",
+        1,
+        "
+        read 0 00H refused 1; read 1 00H refused 1; read 24 100H refused 1; read 64 00H refused 1
+        read 255 02H refused 1; write 15 01H FFFFFFFFH refused 1
+        read 16 01H refused 2; read 32 02H refused 2; read 32 06H refused 2; read 8 100H refused 2
+        read 32 FFFCH refused 2; write 16 103H 0 refused 2; read 16 81H refused 2
+        read 8 02H refused 3; read 8 03H refused 3; read 16 02H refused 3; read 32 28H refused 3
+        read 8 3CH refused 3; read 16 50H refused 3; read 16 7CH refused 3; read 8 FEH refused 3
+        read 16 FEH refused 3; read 8 FDH = 0; read 32 FCH = 0; read 16 4CH = 0; read 8 4DH = 0
+        ",
+    ),
+    case(
+        "4 and 5: value, direction",
+        1,
+        "
+        write 8 04H 256 refused 4; write 16 04H 65,536 refused 4; write 8 28H 256 refused 3
+        write 8 80H 256 refused 4; write 8 80H 255 refused 5; write 16 FCH 0 refused 5
+        write 8 14H 0 refused 5; write 16 18H 0 refused 5; write 32 1CH 0 refused 5
+        write 8 21H 0 refused 5; read 8 24H refused 5; read 16 24H refused 5; read 32 24H refused 5
+        write 8 0CH 255; write 16 0CH 65,535; write 8 09H 255
+        ",
+    ),
+    case(
+        "6: what a busy board takes",
+        1,
+        "
+        write 16 04H 0409H; write 16 24H 1; write 16 14H 0 refused 5; write 8 04H 256 refused 4
+        write 16 04H 0409H refused 6; write 16 08H 0 refused 6; write 16 0CH 0 refused 6
+        write 16 10H 0 refused 6; write 16 10H FFFFH refused 6; write 16 24H 1 refused 6
+        write 16 40H 0 refused 6; write 8 4DH 0 refused 6; write 16 00H 0; write 8 24H 2
+        read 16 04H = 0409H; input 0 1; trigger; write 16 04H 0; write 16 04H 0409H
+        ",
+    ),
+    case(
+        "7: not-used codes and channels above 31",
+        1,
+        "
+        write 16 04H 0006H refused 7; write 16 04H 0010H refused 7; write 16 04H 0600H refused 7
+        write 16 04H 0700H refused 7; write 16 04H 3000H refused 7; write 8 04H 06H refused 7
+        write 8 05H 06H refused 7; write 8 05H 30H refused 7; write 16 04H C0C0H; read 16 04H = 0
+        write 16 04H EDFDH; read 16 04H = 2D3DH; write 8 05H C0H; read 16 04H = 003DH
+        write 16 10H 0020H refused 7; write 16 10H 2000H refused 7; write 8 10H 32 refused 7
+        write 8 11H 255 refused 7; write 16 10H 1F1FH; write 8 10H 0; read 16 10H = 1F00H
+        ",
+    ),
+    case(
+        "8, 9 and 10, in order",
+        1,
+        "
+        write 16 10H 0001H; write 16 24H 1 refused 8; write 16 04H 0109H; write 16 24H 1 refused 9
+        write 16 10H 0405H; write 16 24H 1 refused 9; write 16 10H 0505H; write 16 24H 1 refused 10
+        write 16 04H 0901H; write 16 10H 1001H; write 16 24H 1 refused 9
+        write 16 10H 0F01H; write 16 24H 1 refused 10
+        write 16 04H 0909H; write 16 10H 1F01H; write 16 24H 1 refused 10; write 8 09H 1
+        write 16 0CH 63; write 16 24H 1 refused 10; write 16 0CH 64; write 16 24H 1
+        ",
+    ),
+    case(
+        "10: which modes ask for the interval",
+        1,
+        "
+        write 16 04H 0209H; write 8 09H 64; write 16 0CH 1; write 16 24H 1 refused 10
+        write 8 09H 63; write 16 04H 0B09H; write 16 24H 1 refused 10
+        write 16 04H 0309H; write 16 24H 1; advance 184 = 2; write 16 04H 0   # burst, timer off
+        write 16 04H 0C09H; write 16 24H 1; advance 64 = 1                  # burst single
+        write 16 04H 0D09H; write 16 24H 1; write 16 04H 0                  # trigger only
+        write 16 04H 0B09H; write 8 09H 64; write 16 24H 1
+        ",
+    ),
+    case(
+        "11, 12 and 13",
+        1,
+        "
+        input 31 0; input 32 0 refused 11; input 255 99,000,000 refused 11
+        input 0 -35,000,000; input 0 -35,000,001 refused 12; input 31 55,000,000
+        input 31 55,000,001 refused 12; input 0 -2147483648 refused 12
+        input 0 2147483647 refused 12; advance 0; advance 16,777,216
+        advance 16,777,217 refused 13; advance FFFFFFFFH refused 13
+        ",
+    ),
+    case(
+        "a refused call changes nothing",
+        1,
+        "
+        write 16 04H 1309H; write 16 24H 1; advance 184 = 2; read 16 82H refused 3
+        read 24 80H refused 1; read 16 81H refused 2; write 16 80H 0 refused 5
+        write 16 00H 18000H refused 4; write 8 01H 180H refused 4; write 16 04H 3009H refused 7
+        input 0 99,000,000 refused 12; advance 16,777,217 refused 13
+        read 16 14H = 1; read 16 1CH = 1; read 16 00H = 2; advance 119; advance 1 = 1
+        read 16 80H = 8000H; advance 120 = 1; write 16 04H 1009H; write 16 24H 1 refused 8
+        write 16 04H 1309H; write 16 10H 0001H; write 16 24H 1 refused 9; read 16 14H = 1
+        ",
+    ),
+];
+
+/// More of the schedule, the register widths and reset.
+pub const SCHEDULE: &[Case] = &[
+    case(
+        "I = 64: a store comes before the beginning of the same tick",
+        1,
+        "
+        input 0 -5,000,000; input 1 0; input 2 5,000,000; write 16 10H 0200H
+        write 16 04H 0909H; write 8 09H 64; write 16 0CH 1; write 16 24H 1
+        advance 64; advance 64 = 1; read 16 80H = 4000H; advance 64 = 1; read 16 84H = 8000H
+        advance 64 = 1; read 16 88H = C000H; advance 64 = 1; read 16 80H = 4000H
+        advance 6400 = 100; read 16 80H = 4000H; read 16 84H = 8000H; read 16 88H = C000H
+        write 16 04H 0; write 16 04H 0A09H; write 16 24H 1; advance 256 = 3; write 16 0CH 1
+        read 16 80H = 4000H; read 16 84H = 8000H; read 16 88H = C000H
+        ",
+    ),
+    case(
+        "an input counts for the beginnings after its call",
+        1,
+        "
+        write 16 04H 0909H; write 16 10H 0000H; write 8 09H 64; write 16 0CH 1; write 16 24H 1
+        advance 63; input 0 5,000,000; advance 1; input 0 -5,000,000; advance 63
+        advance 1 = 1; read 16 80H = C000H; advance 63; advance 1 = 1; read 16 80H = 4000H
+        ",
+    ),
+    case(
+        "triggers start scans 001 to 100, and a running one ignores them",
+        1,
+        "
+        write 8 09H 64; write 16 0CH 1
+        write 16 04H 090BH; trigger; advance 100; trigger; advance 28 = 1; write 16 04H 0
+        write 16 04H 0A0BH; trigger; advance 100; trigger; advance 28 = 1; advance 1000
+        write 16 04H 030BH; trigger; advance 60; trigger; advance 4 = 1; write 16 04H 0
+        write 16 04H 040BH; trigger; advance 60; trigger; advance 4 = 1; advance 1000
+        trigger; read 16 14H = 0; advance 64 = 1
+        write 16 04H 050BH; trigger; write 16 0CH 1; write 16 04H 000BH; trigger; write 16 0CH 1
+        ",
+    ),
+    case(
+        "triggers with field 00 or 10 are ignored",
+        1,
+        "
+        write 16 04H 0409H; trigger; write 16 0CH 1; write 16 04H 040DH; trigger; write 16 0CH 1
+        advance 1000; read 16 14H = 0
+        ",
+    ),
+    case(
+        "trigger only: second half on odd passes, and no time between a store and its trigger",
+        1,
+        "
+        write 16 04H 0503H; write 16 10H 0302H; write 16 24H 1; trigger; advance 16,777,216
+        trigger; read 16 14H = 0004H; advance 64; trigger; read 16 14H = 000CH
+        advance 64; trigger; read 16 18H = 0004H; advance 64; trigger; read 16 18H = 000CH
+        advance 64; trigger; read 16 1CH = 0004H; read 16 20H = 0; advance 100,000
+        ",
+    ),
+    case(
+        "a start clears the bits of every slot",
+        1,
+        "
+        write 16 04H 0339H; write 16 10H 1F00H; write 16 24H 1; advance 7624 = 64
+        read 16 14H to 20H = FFFFH; write 16 04H 0; read 16 14H to 20H = FFFFH
+        write 16 04H 0439H; write 16 24H 1; read 16 14H to 20H = 0; read 16 80H to FCH = 8000H
+        ",
+    ),
+    case(
+        "reset keeps range and inputs, and nothing else",
+        3,
+        "
+        input 0 5,000,000; write 16 00H 1; write 16 04H 1B1BH; write 16 08H FF00H
+        write 16 0CH 1234H; write 16 10H 1F00H; write 16 40H FFFFH; write 16 44H 1
+        write 16 48H 2; write 16 4CH 3
+        write 16 24H 1; advance 10,000 = 32; read 16 00H = 3; reset
+        read 16 00H to 20H = 0; read 16 40H to 4CH = 0; read 16 80H to FCH = 0; advance 100,000
+        write 16 04H 0409H; write 16 24H 1; advance 64 = 1; read 16 80H = 8000H
+        ",
+    ),
+    case(
+        "reads of each width of a mailbox give its bytes and clear its bits",
+        1,
+        "
+        input 0 1,234,567; write 16 04H 0309H; write 16 24H 1; advance 184 = 2; read 16 1CH = 1
+        read 8 80H = CDH; read 16 14H = 0; read 16 1CH = 0; advance 240 = 2; read 16 1CH = 1
+        read 8 81H = 8FH; read 16 14H = 0; read 16 1CH = 0; advance 240 = 2; read 16 1CH = 1
+        read 16 80H = 8FCDH; read 16 14H = 0; read 16 1CH = 0; advance 240 = 2; read 16 1CH = 1
+        read 32 80H = 00008FCDH; read 16 14H = 0; read 16 1CH = 0
+        ",
+    ),
+    case(
+        "narrow writes keep the other byte",
+        1,
+        "
+        write 16 0CH 1234H; write 8 0CH 56H; read 16 0CH = 1256H; write 8 0DH 78H
+        read 16 0CH = 7856H; read 8 0CH = 56H; read 8 0DH = 78H; read 32 0CH = 00007856H
+        write 16 40H AAAAH; write 8 41H 55H; read 16 40H = 55AAH; write 8 40H 0; read 16 40H = 5500H
+        write 16 4CH 1234H; read 16 4CH = 1234H; read 16 48H = 0
+        write 8 11H 5; write 8 10H 3; read 16 10H = 0503H; write 8 05H 21H; write 8 04H 3DH
+        read 16 04H = 213DH; read 8 05H = 21H; read 8 04H = 3DH
+        ",
+    ),
+    case(
+        "a differential channel has its own input, and no other is subtracted",
+        1,
+        "
+        input 1 2,500,000; input 17 -5,000,000; write 16 04H 0301H; write 16 10H 0101H
+        write 16 24H 1; advance 184 = 2; read 16 84H = 40960; read 16 C4H = 40960
+        ",
+    ),
+    case(
+        "gains of channels 0, 9, 18 and 31, and two's complement in a range from 0",
+        2,
+        "
+        input 0 500,000; input 9 500,000; input 18 500,000; input 31 500,000; write 16 04H 0409H
+        write 16 40H 0001H; write 16 44H 0008H; write 16 48H 0030H; write 16 4CH C000H
+        write 16 10H 0000H; write 16 24H 1; advance 64 = 1; read 16 80H = 13107
+        write 16 10H 0909H; write 16 24H 1; advance 64 = 1; read 16 A4H = 26214
+        write 16 10H 1212H; write 16 24H 1; advance 64 = 1; read 16 C8H = 52428
+        write 16 10H 1F1FH; write 16 24H 1; advance 64 = 1; read 16 FCH = 52428
+        write 16 04H 0408H; write 16 24H 1; advance 64 = 1; read 16 FCH = 19660
+        ",
+    ),
+];
+
+const TRIGGER: &[u8] = &[0x05, 0, 0];
+
+/// A good heading.
+const HEAD: &[u8] = &[0x00, 5, 0, b'A', b'3', b'3', b'0', 3];
+
+/// Questions 18 to 20: the fields of a trace, the length of the buffer, the result. U23 and U26 of
+/// MANUALS.md are among them.
+pub const TRACES: &[(&[&[u8]], usize, u64)] = &[
+    (&[], 0, 18),
+    (&[&[0x00, 5, 0, b'A', b'3', b'3', b'0']], 100, 18),
+    (&[&[0x00, 5, 0, b'A', b'3', b'3', b'0', 4]], 0, 18),
+    (&[&[0x00, 5, 0, b'A', b'3', b'3', b'0', 255]], 0, 18),
+    (&[&[0x00, 4, 0, b'A', b'3', b'3', b'0']], 0, 18),
+    (&[&[0x00, 6, 0, b'A', b'3', b'3', b'0', 1, 1]], 0, 18),
+    (&[&[0x00, 5, 1, b'A', b'3', b'3', b'0', 1]], 0, 18),
+    (&[&[0x00, 5, 0, b'a', b'3', b'3', b'0', 1]], 0, 18),
+    (&[&[0x00, 5, 0, b'A', b'3', b'3', b'1', 1]], 0, 18),
+    (&[&[0x01, 5, 0, b'A', b'3', b'3', b'0', 1]], 0, 18),
+    (&[TRIGGER, HEAD], 100, 18),
+    (&[&[0x00, 5, 0, b'A', b'3', b'3', b'0', 4, 0x05]], 0, 18),
+    (&[HEAD], 0, 0),
+    (&[HEAD], 100, 0),
+    (&[HEAD, HEAD], 100, 19),
+    (&[HEAD, &[0x05]], 100, 19),
+    (&[HEAD, &[0x05, 0]], 100, 19),
+    (&[HEAD, TRIGGER, &[0x07, 0, 0]], 0, 19),
+    (&[HEAD, &[0x05, 1, 0, 0]], 100, 19),
+    (&[HEAD, &[0x06, 0, 1]], 100, 19),
+    (&[HEAD, &[0x04, 4, 0, 1, 0, 0]], 100, 19),
+    (&[HEAD, &[0x04, 3, 0, 1, 0, 0]], 100, 19),
+    (&[HEAD, &[0x01, 4, 0, 8, 0, 0, 0]], 100, 19),
+    (&[HEAD, TRIGGER], 4, 20),
+    (&[HEAD, TRIGGER], 5, 256),
+    (&[HEAD, TRIGGER, TRIGGER], 9, 20),
+    (&[HEAD, TRIGGER, TRIGGER], 11, 512),
+];

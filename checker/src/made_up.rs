@@ -1,0 +1,163 @@
+//! Made-up traces: lists of calls as bytes, some damaged, with answer buffers of any length.
+
+use crate::board::LONGEST_ADVANCE;
+use crate::generator;
+use crate::random::Random;
+use crate::trace::{decoded, trace_of, ANSWER};
+
+/// So many made-up traces are compared (01, section on the data sheet, d).
+pub const TRACES: u32 = 4_096;
+
+pub const SEED: u64 = 4_096_330;
+
+pub struct MadeUp {
+    pub trace: Vec<u8>,
+    /// What was done to it; not every damage makes a trace that is refused.
+    pub damage: &'static str,
+    /// The answer buffer before the trace is played.
+    pub answers: Vec<u8>,
+}
+
+/// The trace with this index; each is drawn for itself, so that one can be made without the others.
+pub fn made_up(seed: u64, index: u32) -> MadeUp {
+    let own_seed = Random::new(seed).bits() ^ u64::from(index);
+    let mut random = Random::new(Random::new(own_seed).bits());
+    let mut trace = any_trace(&mut random, index);
+    let damage = if random.one_in(6) {
+        damaged(&mut random, &mut trace)
+    } else {
+        "no damage"
+    };
+    let answers = any_buffer(&mut random, &trace);
+    MadeUp {
+        trace,
+        damage,
+        answers,
+    }
+}
+
+fn any_trace(random: &mut Random, index: u32) -> Vec<u8> {
+    let range = random.below(4);
+    let own = Random::new(random.bits());
+    let calls = match index % 128 {
+        1 => generator::marathon(own, range),
+        2 | 3 => generator::sprint(own, range),
+        4 => Vec::new(),
+        // Short ones, for the logbook.
+        5..=49 => generator::scenes(own, range, 2_000, 1 + random.below(3)),
+        _ => generator::scenes(own, range, LONGEST_ADVANCE, 1 + random.below(4)),
+    };
+    trace_of(range as u8, &calls)
+}
+
+// Damage.
+
+/// Damages a trace, and says how.
+fn damaged(random: &mut Random, trace: &mut Vec<u8>) -> &'static str {
+    match random.below(9) {
+        0 | 1 => damaged_heading(random, trace),
+        2..=5 => damaged_field(random, trace),
+        6 => {
+            let length = random.below(trace.len() as u32 + 1);
+            trace.truncate(length as usize);
+            "cut anywhere"
+        }
+        7 => {
+            let count = 1 + random.below(8);
+            trace.extend((0..count).map(|_| random.below(8) as u8));
+            "trailing bytes"
+        }
+        _ => {
+            damaged_field(random, trace);
+            damaged_heading(random, trace);
+            "field and heading"
+        }
+    }
+}
+
+fn damaged_heading(random: &mut Random, trace: &mut Vec<u8>) -> &'static str {
+    match random.below(6) {
+        0 => {
+            trace[0] = random.pick(&[1, 5, 6, 255]);
+            "heading with a wrong tag"
+        }
+        1 => {
+            trace[1] = random.pick(&[0, 4, 6, 8]);
+            "heading with a wrong length"
+        }
+        2 => {
+            trace[2] = random.pick(&[1, 5, 255]);
+            "heading with a far greater length"
+        }
+        3 => {
+            trace[3 + random.below(4) as usize] ^= random.pick(&[0x01, 0x20, 0x80]);
+            "heading with a wrong letter"
+        }
+        4 => {
+            trace[7] = random.pick(&[4, 5, 128, 255]);
+            "range above 3"
+        }
+        _ => {
+            trace.truncate(random.below(8) as usize);
+            "heading cut"
+        }
+    }
+}
+
+/// A wrong tag or length in one of the later fields, if there are any.
+fn damaged_field(random: &mut Random, trace: &mut [u8]) -> &'static str {
+    let starts = field_starts(trace);
+    if starts.is_empty() {
+        return "no damage";
+    }
+    let start = random.pick(&starts);
+    match random.below(5) {
+        0 => {
+            trace[start] = 0;
+            "second heading's tag"
+        }
+        1 => {
+            trace[start] = random.pick(&[7, 8, 0x81, 255]);
+            "field with no call's tag"
+        }
+        2 => {
+            trace[start] = 1 + random.below(6) as u8;
+            "field with another call's tag"
+        }
+        3 => {
+            trace[start + 1] = random.below(9) as u8;
+            "field with another length"
+        }
+        _ => {
+            trace[start + 2] = random.pick(&[1, 255]);
+            "field with a far greater length"
+        }
+    }
+}
+
+/// Where the fields after the heading start.
+fn field_starts(trace: &[u8]) -> Vec<usize> {
+    let mut starts = Vec::new();
+    let mut start = 8;
+    while start < trace.len() {
+        starts.push(start);
+        start += 3 + usize::from(trace[start + 1]);
+    }
+    starts
+}
+
+// Answer buffers.
+
+/// Too short, exact or too long, with anything in it.
+fn any_buffer(random: &mut Random, trace: &[u8]) -> Vec<u8> {
+    let calls = decoded(trace).map_or(20, |(_, calls)| calls.len());
+    let exact = ANSWER * calls;
+    let length = match random.below(20) {
+        0 => random.below(exact as u32 + 1) as usize,
+        1 => exact.saturating_sub(1 + random.below(5) as usize),
+        2..=9 => exact,
+        10..=15 => exact + 1 + random.below(5) as usize,
+        _ => exact + random.below(200) as usize,
+    };
+    (0..length).map(|_| random.bits() as u8).collect()
+}

@@ -1,0 +1,145 @@
+//! Lists of calls with the answers expected, written as 01 writes them:
+//!
+//! ```text
+//! write 16 10H 0300H; write 16 04H 0401H; write 16 24H 1
+//! advance 64 = 1             # accepted, with value 1
+//! write 16 0CH 8 refused 6   # not accepted: number 6
+//! read 16 80H to 8CH = 8000H # four reads, of each fourth offset
+//! ```
+//!
+//! A call with nothing after it is accepted with value 0. A trailing H marks hexadecimal.
+
+use crate::analog::Answer;
+use crate::call::Call;
+use std::fmt::Display;
+use std::str::FromStr;
+
+/// A call and the answer expected.
+#[derive(Clone, Copy, Debug, PartialEq, Eq)]
+pub struct Step {
+    pub call: Call,
+    pub expected: Answer,
+}
+
+/// The steps of a script: calls stand on lines of their own or between semicolons.
+pub fn steps(script: &str) -> Vec<Step> {
+    let without_comments = |line: &str| line.split('#').next().unwrap_or("").to_string();
+    let lines = script.lines().map(without_comments);
+    let mut steps = Vec::new();
+    for line in lines {
+        for text in line.split(';').map(str::trim) {
+            if !text.is_empty() {
+                steps.extend(steps_of(text));
+            }
+        }
+    }
+    steps
+}
+
+fn steps_of(text: &str) -> Vec<Step> {
+    let words: Vec<&str> = text.split_whitespace().collect();
+    let (words, expected) = match words[..] {
+        [ref call @ .., "=", value] => (call, accepted(number(value))),
+        [ref call @ .., "refused", question] => (call, refused(number(question))),
+        _ => (&words[..], accepted(0)),
+    };
+    let calls = calls_of(words).unwrap_or_else(|| panic!("no call: {text}"));
+    let step = |call| Step { call, expected };
+    calls.into_iter().map(step).collect()
+}
+
+fn accepted(value: u64) -> Answer {
+    Answer { number: 0, value }
+}
+
+fn refused(number: u64) -> Answer {
+    Answer { number, value: 0 }
+}
+
+fn calls_of(words: &[&str]) -> Option<Vec<Call>> {
+    let call = match *words {
+        ["read", width, first, "to", last] => {
+            let offsets = (number(first)..=number::<u16>(last)).step_by(4);
+            let width = number(width);
+            return Some(offsets.map(|offset| Call::Read { width, offset }).collect());
+        }
+        ["read", width, offset] => Call::Read {
+            width: number(width),
+            offset: number(offset),
+        },
+        ["write", width, offset, value] => Call::Write {
+            width: number(width),
+            offset: number(offset),
+            value: number(value),
+        },
+        ["input", channel, microvolts] => Call::Input {
+            channel: number(channel),
+            microvolts: number(microvolts),
+        },
+        ["advance", ticks] => Call::Advance {
+            ticks: number(ticks),
+        },
+        ["trigger"] => Call::Trigger,
+        ["reset"] => Call::Reset,
+        _ => return None,
+    };
+    Some(vec![call])
+}
+
+/// A number as 01 writes it: "1FF8H", "16,777,216" or "-1".
+fn number<Number: FromStr + TryFrom<u64>>(word: &str) -> Number
+where
+    Number::Err: Display,
+{
+    let digits = word.replace(',', "");
+    match digits.strip_suffix('H') {
+        Some(digits) => {
+            let read = u64::from_str_radix(digits, 16).ok();
+            let narrow = read.and_then(|read| Number::try_from(read).ok());
+            narrow.unwrap_or_else(|| panic!("no number, or too wide: {word}"))
+        }
+        None => digits
+            .parse()
+            .unwrap_or_else(|error| panic!("{word}: {error}")),
+    }
+}
+
+#[cfg(test)]
+mod tests {
+    use super::*;
+
+    #[test]
+    fn calls_and_answers_are_read() {
+        let script = "
+            read 16 80H to 88H = 8000H   # three
+            input 3 -35,000,001 refused 12; trigger
+            write 32 24H 00010000H
+        ";
+        let expected = [
+            ("read 16 80H", 0, 0x8000),
+            ("read 16 84H", 0, 0x8000),
+            ("read 16 88H", 0, 0x8000),
+            ("input 3 -35000001", 12, 0),
+            ("trigger", 0, 0),
+            ("write 32 24H 10000H", 0, 0),
+        ];
+        let steps = steps(script);
+        assert_eq!(steps.len(), expected.len());
+        for (step, (call, number, value)) in steps.iter().zip(expected) {
+            assert_eq!(step.call.to_string(), call);
+            assert_eq!(step.expected, Answer { number, value });
+        }
+    }
+
+    #[test]
+    #[should_panic(expected = "no call: raed 16 80H")]
+    fn a_slip_is_noticed() {
+        steps("raed 16 80H = 0");
+    }
+
+    #[test]
+    #[should_panic(expected = "too wide: 1FFH")]
+    fn a_width_beyond_its_place_is_noticed() {
+        steps("read 1FFH 80H = 0");
+    }
+}
