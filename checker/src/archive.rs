@@ -40,3 +40,21 @@ pub fn code(range: u32, gain: u32, microvolts: i32) -> u32 {
     // Safe: plain numbers go in and out, and no memory is lent.
     unsafe { pmc330_code(range, gain, microvolts) }
 }
+
+extern "C" {
+    fn pmc330_play(trace: *const u8, trace_len: usize, answers: *mut u8, answers_len: usize)
+        -> u64;
+}
+
+/// The archive's player: 256 * calls answered + number.
+pub fn play(trace: &[u8], answers: &mut [u8]) -> u64 {
+    // Safe: both buffers are lent with their lengths for this call only, and they are apart.
+    unsafe {
+        pmc330_play(
+            trace.as_ptr(),
+            trace.len(),
+            answers.as_mut_ptr(),
+            answers.len(),
+        )
+    }
+}

@@ -18,4 +18,5 @@ pub mod moments;
 pub mod random;
 pub mod registers;
 pub mod script;
+pub mod stored;
 pub mod trace;

@@ -33,6 +33,6 @@ firstNo (q ∷ later) = cond (q .met) (firstNo later) (q .number)
 unfoldable pub answered : List Question → ℕ → Answer
 answered questions value = cond (eqb (firstNo questions) 0) (Accepted value) (Refused (firstNo questions))
 
--- the answer as one number, as C gets it: 256 × value + number
+-- the answer as one number, as C gets it, in the manner of the player: 256 × value + number
 abbrev pub packed : Answer → ℕ
 packed answer = 256 * valueOf answer + numberOf answer

@@ -3,6 +3,8 @@ ghost use mathlib.Core.Path.{_≡_};
 ghost use Rattle.analog.specs.Answers.{packed};
 ghost use Rattle.analog.specs.Code.{codeOf};
 ghost use Rattle.analog.specs.Correction.{correctedAnswer};
+ghost use lib.ListN.{length};
+ghost use Rattle.trace.specs.Play.{playedResult, playedBuffer};
 use analog::Answer;
 
 // An answer as one number, 256 × value + number.
@@ -37,4 +39,13 @@ pub extern "C" fn pmc330_code(range: u32, gain: u32, microvolts: i32) -> u32
     ensures { λ r. ⌜ r ≡ codeOf range gain microvolts ⌝ }
 {
     analog::code(range, gain, microvolts) as u32
+}
+
+// A trace played on a new board, its answers put into the lent buffer: 256 × calls answered + number.
+#[no_mangle]
+pub extern "C" fn pmc330_play(trace: &[u8], answers: &mut [u8]) -> u64
+    ensures result { λ r. ⌜ r ≡ playedResult (now (trace .entry)) (length (now (answers .entry))) ⌝ }
+    ensures buffer { λ r. ⌜ now (answers .exit) ≡ playedBuffer (now (trace .entry)) (now (answers .entry)) ⌝ }
+{
+    trace::play(trace, answers)
 }

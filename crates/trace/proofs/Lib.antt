@@ -1,0 +1,4 @@
+pub mod FieldLaws
+pub mod CallLaws
+pub mod PlayLaws
+pub mod Theorems

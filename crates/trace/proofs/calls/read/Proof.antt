@@ -1,0 +1,57 @@
+-- By the board's promise, with the numbers of the body.
+use borrow.Author.Needs.{needs}
+use mathlib.Core.Path.{ap₂, _∙_}
+use Prim.Native.Nat.{ℕ}
+use Rattle.pmc330_model.specs.Board.{boardCall}
+use Rattle.pmc330_model.specs.Calls.{read}
+use Rattle.trace.specs.Grammar.{callOf}
+use Rattle.trace.proofs.calls.read.Statement.{statement}
+use Rattle.trace.proofs.calls.read.Tie as tie
+
+sub-number : tie.Need-sub-number
+sub-number c = search needs
+
+part-number-start : tie.Need-part-number-start
+part-number-start c = search needs
+
+part-number-end : tie.Need-part-number-end
+part-number-end c = search needs
+
+number-requires : tie.Need-number-requires
+number-requires c κs = search needs
+
+sub-number-2 : tie.Need-sub-number-2
+sub-number-2 c = search needs
+
+part-number-start-2 : tie.Need-part-number-start-2
+part-number-start-2 c = search needs
+
+part-number-end-2 : tie.Need-part-number-end-2
+part-number-end-2 c = search needs
+
+number-requires-2 : tie.Need-number-requires-2
+number-requires-2 c κs = search needs
+
+read-requires : tie.Need-read-requires
+read-requires c κs = search needs
+
+returns : tie.Need-returns
+unfolding callOf
+returns c =
+    let b = c .before .before .before .before .before .before .args .board in
+    c .read .ensures ∙ ap₂ (λ (w o : ℕ). boardCall b (read w o)) (c .before .before .before .number .ensures) (c .before .number2 .ensures)
+
+pub read-spec : {M : Type 1} → statement M
+read-spec =
+    tie.close
+    (tie.spec
+    sub-number
+    part-number-start
+    part-number-end
+    number-requires
+    sub-number-2
+    part-number-start-2
+    part-number-end-2
+    number-requires-2
+    read-requires
+    returns)

@@ -1,0 +1,100 @@
+-- The loop's invariant: the calls counted, with those left, are the calls of the trace.
+use borrow.Author.Needs.{needs}
+use mathlib.Core.Path.{_≡_, refl, sym, ap, _∙_}
+use mathlib.Core.Bool.{true}
+use Prim.Native.Nat.{_+_, _-_, _≤_}
+use native.Mathlib.Omega.{arith}
+use lib.ListN.{length, length-drop, drop}
+use borrow.Author.Tests.{not-true, not-false}
+use Rattle.pmc330_model.proofs.Cases.{and-left}
+use Rattle.trace.specs.Fields.{fieldsOf, laterFields, isCallField, isWhole}
+use Rattle.trace.specs.Machine.{counted}
+use Rattle.trace.specs.declared.fields.Checked.the-variants.{Calls}
+use Rattle.trace.proofs.FieldLaws.{whole-at, no-call, fields-end, count-turn}
+use Rattle.trace.proofs.fields.check_fields.Statement.{statement}
+use Rattle.trace.proofs.fields.check_fields.Tie as tie
+
+abbrev Inv-loop : tie.InvT-loop
+Inv-loop trace at₀ n₀ at n = (at ≤ length trace) × (n ≤ at) × (counted n (fieldsOf (drop at trace)) ≡ counted 0 (laterFields trace))
+
+abbrev μ-loop : tie.MeasureT-loop
+μ-loop trace at₀ n₀ at n = length trace - at
+
+loop-holds : tie.Need-loop-holds Inv-loop μ-loop
+loop-holds c = (omega arith, omega arith, refl)
+
+is-call-field-requires : tie.Need-is-call-field-requires Inv-loop μ-loop
+is-call-field-requires c κs = omega arith
+
+returns : tie.Need-returns Inv-loop μ-loop
+returns c =
+    let at = c .before .before .before in
+    let trace = at .before .before .args .trace .now in (
+      sym (ap (counted (at .loop .n)) (no-call trace (at .loop .at) (c .before .before .loop-test .taken) (sym (c .before .is-call-field .ensures) ∙ not-true _ (c .if1 .taken)))) ∙ at .loop .inv .2,
+      omega arith,
+    )
+
+add-at : tie.Need-add-at Inv-loop μ-loop
+add-at c = omega arith
+
+shared-slice-read-length-of : tie.Need-shared-slice-read-length-of Inv-loop μ-loop
+shared-slice-read-length-of c = omega arith
+
+length-of-requires : tie.Need-length-of-requires Inv-loop μ-loop
+length-of-requires c κs = search needs
+
+add-at-2 : tie.Need-add-at-2 Inv-loop μ-loop
+add-at-2 c = omega arith
+
+add-n : tie.Need-add-n Inv-loop μ-loop
+add-n c = omega arith
+
+-- the field that a turn found
+module _ (c : tie.After-length-of Inv-loop μ-loop) where
+  a-field : isCallField (drop (c .before .before .before .before .before .loop .at) (c .before .before .before .before .before .before .before .args .trace .now)) ≡ true
+  a-field = sym (c .before .before .before .is-call-field .ensures) ∙ not-false _ (c .before .before .if1 .left)
+
+  ends : c .before .before .before .before .before .loop .at + 3 + c .length-of .result ≤ length (c .before .before .before .before .before .before .before .args .trace .now)
+  ends =
+      let at = c .before .before .before .before .before in
+      whole-at (at .before .before .args .trace .now) (at .loop .at) (c .length-of .result) (c .length-of .ensures .0)
+      (and-left (isWhole (drop (at .loop .at) (at .before .before .args .trace .now))) _ a-field) .ends
+
+loop-less : tie.Need-loop-less Inv-loop μ-loop
+loop-less c = omega (arith, ends c)
+
+loop-again : tie.Need-loop-again Inv-loop μ-loop
+loop-again c =
+    let at = c .before .before .before .before .before in
+    let trace = at .before .before .args .trace .now in (
+      ends c,
+      omega arith,
+      sym (count-turn trace (at .loop .at) (c .length-of .result) (at .loop .n) (c .before .before .before .before .loop-test .taken) (c .length-of .ensures .0) (a-field c))
+          ∙ at .loop .inv .2,
+    )
+
+returns-2 : tie.Need-returns-2 Inv-loop μ-loop
+returns-2 c =
+    let at = c .before in
+    let trace = at .before .before .args .trace .now in (
+      ap Calls (omega arith) ∙ sym (ap (counted (at .loop .n)) (fields-end (drop (at .loop .at) trace) (omega (arith, length-drop (at .loop .at) trace)))) ∙ at .loop .inv .2,
+      omega arith,
+    )
+
+pub check-fields-spec : {M : Type 1} → statement M
+check-fields-spec =
+    tie.close
+    (tie.spec
+    Inv-loop
+    μ-loop
+    loop-holds
+    is-call-field-requires
+    returns
+    add-at
+    shared-slice-read-length-of
+    length-of-requires
+    add-at-2
+    add-n
+    loop-less
+    loop-again
+    returns-2)

@@ -1,0 +1,69 @@
+-- Document 01, "Traces": what the player answers, and what it leaves in the answer buffer.
+use Prim.Native.Nat.{ℕ, _+_, _*_, _/_, _%_}
+use mathlib.Core.Bool.{Bool, true, false, cond, _&&_}
+use mathlib.Core.List.{List, [], _∷_, _++_}
+use lib.Dec.{eqb, leb}
+use lib.ListN.{length, drop}
+use Rattle.analog.specs.Answers.{Question, question, firstNo, numberOf, valueOf}
+use Rattle.analog.specs.declared.Answer.{Answer}
+use Rattle.pmc330_model.specs.Calls.{Call}
+use Rattle.pmc330_model.specs.Board.{answersOf}
+use Rattle.trace.specs.Fields.{Fields, damaged, whole, isHeading, rangeOf, laterFields}
+
+abbrev pub isUndamaged : Fields → Bool
+isUndamaged damaged = false
+isUndamaged (whole calls) = true
+
+abbrev pub callsIn : Fields → List Call
+callsIn damaged = []
+callsIn (whole calls) = calls
+
+-- the calls of a trace, in order
+abbrev pub callsOf : (trace : List ℕ) → List Call
+callsOf trace = callsIn (laterFields trace)
+
+-- 18. "Has the trace at most 16,777,216 bytes, and is its first field that heading, with range 0 to 3?"
+-- 19. "Is every later field whole, with a call's tag and its length?"
+-- 20. "Has the answer buffer at least 5 bytes per call?"
+abbrev pub traceQuestions : (trace : List ℕ) (room : ℕ) → List Question
+traceQuestions trace room =
+    question 18 (leb (length trace) 16_777_216 && isHeading trace)
+    ∷ question 19 (isUndamaged (laterFields trace))
+    ∷ question 20 (leb (5 * length (callsOf trace)) room)
+    ∷ []
+
+unfoldable pub traceNumber : (trace : List ℕ) (room : ℕ) → ℕ
+traceNumber trace room = firstNo (traceQuestions trace room)
+
+-- "Each call's 5-byte answer (number 1, value 4)"; "numbers low byte first"
+abbrev pub answerBytes : Answer → List ℕ
+answerBytes answer =
+    numberOf answer
+    ∷ valueOf answer % 256
+    ∷ valueOf answer / 256 % 256
+    ∷ valueOf answer / 65_536 % 256
+    ∷ valueOf answer / 16_777_216 % 256
+    ∷ []
+
+unfoldable pub bytesOf : List Answer → List ℕ
+bytesOf [] = []
+bytesOf (answer ∷ answers) = answerBytes answer ++ bytesOf answers
+
+-- an answer "goes into the rest of the answer buffer, from where the last one ended; bytes beyond stay"
+unfoldable pub inBuffer : List Answer → (buffer : List ℕ) → List ℕ
+inBuffer answers buffer = bytesOf answers ++ drop (length (bytesOf answers)) buffer
+
+-- "C simulators call it with two byte buffers and get back 256 × calls answered + number."
+unfoldable pub callsAnswered : (trace : List ℕ) (room : ℕ) → ℕ
+callsAnswered trace room = cond (eqb (traceNumber trace room) 0) (length (callsOf trace)) 0
+
+abbrev pub playedResult : (trace : List ℕ) (room : ℕ) → ℕ
+playedResult trace room = 256 * callsAnswered trace room + traceNumber trace room
+
+-- the answer buffer: as it was where the trace is refused, else with the answers of its calls on a new board of its range.
+-- "A refused call is answered and the trace goes on."
+unfoldable pub playedBuffer : (trace buffer : List ℕ) → List ℕ
+playedBuffer trace buffer =
+    cond (eqb (traceNumber trace (length buffer)) 0)
+    (inBuffer (answersOf (rangeOf trace) (callsOf trace)) buffer)
+    buffer

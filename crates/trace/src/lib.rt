@@ -1,0 +1,57 @@
+// The trace player: a trace's calls, made on a new board, and their answers in the lent buffer.
+mod calls;
+mod fields;
+
+ghost use mathlib.Core.Path.{_≡_};
+ghost use lib.ListN.{length};
+ghost use Rattle.pmc330_model.specs.Board.{answersFrom};
+ghost use Rattle.trace.specs.Play.{callsOf, inBuffer, playedResult, playedBuffer};
+ghost use Rattle.trace.specs.Machine.{Playable};
+use fields::Checked;
+use pmc330_model::Board;
+
+// The calls of a checked trace, from a board on.
+fn play_calls(trace: &[u8], answers: &mut [u8], start: Board)
+    requires { ⌜ Playable (now trace) (length (now answers)) ⌝ }
+    ensures { λ r. ⌜ now (answers .exit) ≡ inBuffer (answersFrom start (callsOf (now (trace .entry)))) (now (answers .entry)) ⌝ }
+{
+    let mut board = start;
+    let mut at: usize = 8;
+    let mut done: usize = 0;
+    while at < trace.len() {
+        let tag = trace[at];
+        let body = at + 3;
+        let end = body + fields::length_of(tag);
+        let reply = calls::call(board, tag, &trace[body..end]);
+        let answer = reply.answer;
+        calls::put(&mut answers[done..], answer);
+        let next = reply.board;
+        board = next;
+        done += 5;
+        at = end;
+    }
+}
+
+// Plays a trace. Gives back 256 × calls answered + number.
+pub fn play(trace: &[u8], answers: &mut [u8]) -> u64
+    ensures result { λ r. ⌜ r ≡ playedResult (now (trace .entry)) (length (now (answers .entry))) ⌝ }
+    ensures buffer { λ r. ⌜ now (answers .exit) ≡ playedBuffer (now (trace .entry)) (now (answers .entry)) ⌝ }
+{
+    if 16_777_216 < trace.len() {
+        return 18;
+    }
+    if !fields::is_heading(trace) {
+        return 18;
+    }
+    let checked = fields::check_fields(trace);
+    let Checked::Calls(n) = checked else {
+        return 19;
+    };
+    if answers.len() < 5 * n {
+        return 20;
+    }
+    let opened = pmc330::new(fields::wide(trace[7]));
+    let board = opened.board;
+    play_calls(trace, answers, board);
+    256 * (n as u64)
+}
