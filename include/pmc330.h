@@ -47,12 +47,13 @@ uint32_t pmc330_code(uint32_t range, uint32_t gain, int32_t microvolts);
       3  an unmapped first byte
       4  a value that the width cannot hold
       5  a write to a read-only register, or a read of Start Convert
-      6  a write while a cycle runs or is armed, other than to Interrupt, a Control write with scan
-         000, or a Start Convert write without bit 0
+      6  a write while a cycle runs or is armed, other than to Interrupt, a Control write after which
+         scan is 000, or a Start Convert write without bit 0
       7  a not-used code in Control, or a Start or End Channel above 31
       8  a start with scan 000
       9  a start with Start Channel above End, or End above 15 in differential
-     10  a start in a uniform mode with the timer off, or with prescaler * timer below 64 where it counts
+     10  a start in a uniform mode with the timer off, or with prescaler * timer below 64 in a uniform
+         mode or in burst continuous with the timer on
      11  an input's channel above 31
      12  an input outside -35,000,000 to 55,000,000 microvolts
      13  an advance above 16,777,216 ticks

@@ -95,6 +95,8 @@ def decoded_body(fields, body):
 
 
 def decoded(trace):
+    if not trace:
+        raise Wrong("no heading: the trace is empty")
     lines, at = [], 0
     names = {tag: (name, fields) for name, (tag, fields) in CALLS.items()}
     while at < len(trace):

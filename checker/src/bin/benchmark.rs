@@ -62,7 +62,7 @@ fn compare(load: &Load) -> f64 {
     println!("  archive     {:>12.0} calls/s", calls / archive);
     println!("  independent {:>12.0} calls/s", calls / independent);
     println!(
-        "  archive / independent, time: {:.3}",
+        "  archive / independent, time: {:.5}",
         archive / independent
     );
     archive

@@ -17,7 +17,7 @@ pub struct Cycle {
     pub running: bool,
     // ticks to the next beginning; 0: none to come
     pub lead: u32,
-    // ticks left of the conversion in progress; 0: none, or over
+    // ticks left of the conversion in progress, or in external trigger only until a trigger may be taken; 0: none
     pub lag: u32,
     // a code was taken in this cycle and is not stored yet
     pub waiting: bool,

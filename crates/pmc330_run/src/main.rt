@@ -9,6 +9,7 @@ fn print(text: &mut [u8], answers: &[u8], result: u64) {
         return;
     }
     let calls = result / 256;
+    // Always so, see main; the test is for the conversion to 32 bits.
     if calls <= 10920 {
         let end = lines::put_lines(text, answers, calls as u32);
         io::write_all(libc::STDOUT_FILENO, &text[..end]);

@@ -1,19 +1,29 @@
--- The sentence on traces, proved. Its statement is in specs/Sentences.antt.
+-- The sentences on traces, proved. Their statements are in specs/Sentences.antt.
 use mathlib.Core.Bool.{Bool, true, false}
 use mathlib.Core.List.{List, _∷_}
 use mathlib.Core.Path.{_≡_, refl, sym, ap, _∙_}
 use Prim.Native.Nat.{ℕ}
 use native.Mathlib.Omega.{arith}
-use lib.Dec.{leb}
+use lib.Dec.{eqb, leb}
+use borrow.Author.Tests.{ne-eqb}
 use lib.ListN.{length}
 use Rattle.analog.specs.Answers.{Question, question, firstNo}
 use Rattle.analog.specs.declared.Answer.{Answer}
 use Rattle.pmc330_model.proofs.Cases.{and-right}
 use Rattle.pmc330_model.proofs.Theorems.{answersAgree}
 use Rattle.trace.specs.Fields.{isHeading, rangeOf}
-use Rattle.trace.specs.Play.{traceNumber, callsOf, inBuffer}
-use Rattle.trace.specs.Sentences.{EveryTrace}
+use Rattle.trace.specs.Play.{traceNumber, callsOf, callsAnswered, playedBuffer, inBuffer}
+use Rattle.trace.specs.Sentences.{EveryRefusedTrace, EveryTrace}
 use Rattle.trace.proofs.PlayLaws.{accepted, heading-range}
+
+pub tracesRefused : EveryRefusedTrace
+unfolding callsAnswered playedBuffer
+tracesRefused trace buffer some =
+    let refused : eqb (traceNumber trace (length buffer)) 0 ≡ false = ne-eqb _ _ some in
+    record {
+      result = rw refused (omega arith);
+      unchanged = rw refused;
+    }
 
 first-met : (met : Bool) (later : List Question) → firstNo (question 18 met ∷ later) ≡ 0 → met ≡ true
 unfolding firstNo

@@ -25,8 +25,7 @@ fn play_calls(trace: &[u8], answers: &mut [u8], start: Board)
         let reply = calls::call(board, tag, &trace[body..end]);
         let answer = reply.answer;
         calls::put(&mut answers[done..], answer);
-        let next = reply.board;
-        board = next;
+        board = reply.board;
         done += 5;
         at = end;
     }
