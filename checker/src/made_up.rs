@@ -1,9 +1,10 @@
 //! Made-up traces: lists of calls as bytes, some damaged, with answer buffers of any length.
 
 use crate::board::LONGEST_ADVANCE;
+use crate::call::Call;
 use crate::generator;
 use crate::random::Random;
-use crate::trace::{decoded, trace_of, ANSWER};
+use crate::trace::{decoded, field_of, heading, trace_of, ANSWER, LONGEST_TRACE};
 
 /// So many made-up traces are compared (01, section on the data sheet, d).
 pub const TRACES: u32 = 4_096;
@@ -48,6 +49,26 @@ fn any_trace(random: &mut Random, index: u32) -> Vec<u8> {
         _ => generator::scenes(own, range, LONGEST_ADVANCE, 1 + random.below(4)),
     };
     trace_of(range as u8, &calls)
+}
+
+/// 16,777,216 bytes are taken by a player, with 5,592,401 calls; one byte more is not.
+pub fn check_longest(play: fn(&[u8], &mut [u8]) -> u64) {
+    let mut trace = heading(0);
+    trace.extend(field_of(&Call::Input {
+        channel: 0,
+        microvolts: 1,
+    }));
+    while trace.len() < LONGEST_TRACE {
+        trace.extend([0x05, 0, 0]);
+    }
+    assert_eq!(trace.len(), 16_777_216);
+    let mut buffer = vec![1; 5 * 5_592_401];
+    assert_eq!(play(&trace, &mut buffer[1..]), 20);
+    assert!(buffer.iter().all(|byte| *byte == 1));
+    assert_eq!(play(&trace, &mut buffer), 256 * 5_592_401);
+    assert!(buffer.iter().all(|byte| *byte == 0));
+    trace.push(0x05);
+    assert_eq!(play(&trace, &mut buffer), 18);
 }
 
 // Damage.

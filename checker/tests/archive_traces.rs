@@ -5,10 +5,10 @@ use checker::archive;
 use checker::call::Call;
 use checker::cases;
 use checker::generator::hostile;
-use checker::made_up::{made_up, SEED, TRACES};
+use checker::made_up::{check_longest, made_up, SEED, TRACES};
 use checker::random::seed_or;
 use checker::script::steps;
-use checker::trace::{self, decoded, field, field_of, heading, trace_of};
+use checker::trace::{self, decoded, field, heading, trace_of};
 
 /// Bytes before and after the buffer that is lent; nobody may write them.
 const GUARD: usize = 64;
@@ -234,25 +234,9 @@ fn every_word_of_the_registers_that_are_asked() {
     }
 }
 
-/// 16,777,216 bytes are taken, with 5,592,401 calls; one more is not.
 #[test]
 fn the_longest_trace() {
-    let mut trace = heading(0);
-    trace.extend(field_of(&Call::Input {
-        channel: 0,
-        microvolts: 1,
-    }));
-    while trace.len() < trace::LONGEST_TRACE {
-        trace.extend([0x05, 0, 0]);
-    }
-    assert_eq!(trace.len(), 16_777_216);
-    let mut buffer = vec![1; 5 * 5_592_401];
-    assert_eq!(archive::play(&trace, &mut buffer[1..]), 20);
-    assert!(buffer.iter().all(|byte| *byte == 1));
-    assert_eq!(archive::play(&trace, &mut buffer), 256 * 5_592_401);
-    assert!(buffer.iter().all(|byte| *byte == 0));
-    trace.push(0x05);
-    assert_eq!(archive::play(&trace, &mut buffer), 18);
+    check_longest(archive::play);
 }
 
 /// Some longest advances of the fastest scan in a row.

@@ -7,7 +7,7 @@ use checker::call::Call;
 use checker::cases::{self, SEVEN_CALLS};
 use checker::coverage::Coverage;
 use checker::logbook::Logbook;
-use checker::made_up::{made_up, MadeUp, SEED, TRACES};
+use checker::made_up::{check_longest, made_up, MadeUp, SEED, TRACES};
 use checker::moments::{all_kinds, played, Accesses};
 use checker::random::seed_or;
 use checker::script::steps;
@@ -264,25 +264,9 @@ fn every_tag_and_length() {
     }
 }
 
-/// 16,777,216 bytes are taken, with 5,592,401 calls; one more is not.
 #[test]
 fn the_longest_trace() {
-    let mut trace = heading(0);
-    trace.extend(field_of(&Call::Input {
-        channel: 0,
-        microvolts: 1,
-    }));
-    while trace.len() < trace::LONGEST_TRACE {
-        trace.extend([0x05, 0, 0]);
-    }
-    assert_eq!(trace.len(), 16_777_216);
-    let mut buffer = vec![1; 5 * 5_592_401];
-    assert_eq!(play(&trace, &mut buffer[1..]), 20);
-    assert!(buffer.iter().all(|byte| *byte == 1));
-    assert_eq!(play(&trace, &mut buffer), 256 * 5_592_401);
-    assert!(buffer.iter().all(|byte| *byte == 0));
-    trace.push(0x05);
-    assert_eq!(play(&trace, &mut buffer), 18);
+    check_longest(play);
 }
 
 /// U24 and U25 of MANUALS.md: a longer input is cut and then judged.

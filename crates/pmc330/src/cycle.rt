@@ -17,7 +17,7 @@ pub struct Scan {
     pub cycle: Cycle,
 }
 
-pub fn idle_cycle() -> Cycle
+pub(crate) fn idle_cycle() -> Cycle
     ensures { λ c. ⌜ c ≡ idleCycle ⌝ }
 {
     Cycle {
@@ -43,7 +43,7 @@ fn is_last(r: Registers, ends: bool) -> bool
 }
 
 // The ticks from a beginning to the next one.
-pub fn lead_after(r: Registers, ends: bool) -> u32
+pub(crate) fn lead_after(r: Registers, ends: bool) -> u32
     ensures { λ n. ⌜ n ≡ leadAfter r ends ⌝ }
 {
     if !fields::is_timed(r) {
@@ -94,7 +94,7 @@ fn parity_after(odd: bool, ends: bool) -> bool
 }
 
 // The cycle after the next conversion has begun.
-pub fn begun_cycle(r: Registers, c: Cycle) -> Cycle
+pub(crate) fn begun_cycle(r: Registers, c: Cycle) -> Cycle
     ensures { λ n. ⌜ n ≡ begunCycle r c ⌝ }
 {
     let place = (c.index as u32) + 1;
@@ -116,7 +116,7 @@ pub fn begun_cycle(r: Registers, c: Cycle) -> Cycle
 }
 
 // The cycle after its conversion in progress is stored.
-pub fn stored_cycle(r: Registers, c: Cycle) -> Cycle
+pub(crate) fn stored_cycle(r: Registers, c: Cycle) -> Cycle
     ensures { λ n. ⌜ n ≡ storedCycle r c ⌝ }
 {
     if is_last(r, c.ends) {
@@ -157,7 +157,7 @@ fn code_at(range: u8, r: Registers, gains: &[u8; 32], inputs: &[i32; 32], channe
 }
 
 // The next conversion begins.
-pub fn begin(range: u8, r: Registers, gains: &[u8; 32], inputs: &[i32; 32], s: Scan) -> Scan
+pub(crate) fn begin(range: u8, r: Registers, gains: &[u8; 32], inputs: &[i32; 32], s: Scan) -> Scan
     ensures { λ n. ⌜ n ≡ begunScan range r (now (gains .entry)) (now (inputs .entry)) s ⌝ }
 {
     let c = s.cycle;

@@ -6,43 +6,43 @@ ghost use Rattle.pmc330_model.specs.Map.{isStraight, triggerField, acquisitionF
 ghost use Rattle.pmc330_model.specs.Schedule.{passLength, interval, isDifferential, isUniform, isBurst, isSingle, isTimed, isTriggerOnly, isInterrupting, burstDelay};
 use pmc330_model::Registers;
 
-pub fn wide(n: u8) -> u32
+pub(crate) fn wide(n: u8) -> u32
     ensures { λ r. ⌜ r ≡ n ⌝ }
 {
     n as u32
 }
 
-pub fn trigger_field(control: u16) -> u16
+pub(crate) fn trigger_field(control: u16) -> u16
     ensures { λ f. ⌜ f ≡ triggerField control ⌝ }
 {
     control / 2 % 4
 }
 
-pub fn acquisition_field(control: u16) -> u16
+pub(crate) fn acquisition_field(control: u16) -> u16
     ensures { λ f. ⌜ f ≡ acquisitionField control ⌝ }
 {
     control / 8 % 8
 }
 
-pub fn scan_field(control: u16) -> u16
+pub(crate) fn scan_field(control: u16) -> u16
     ensures { λ f. ⌜ f ≡ scanField control ⌝ }
 {
     control / 0x100 % 8
 }
 
-pub fn interrupt_field(control: u16) -> u16
+pub(crate) fn interrupt_field(control: u16) -> u16
     ensures { λ f. ⌜ f ≡ interruptField control ⌝ }
 {
     control / 0x1000 % 4
 }
 
-pub fn is_straight(control: u16) -> bool
+pub(crate) fn is_straight(control: u16) -> bool
     ensures { λ t. ⌜ t ≡ isStraight control ⌝ }
 {
     control % 2 == 1
 }
 
-pub fn is_timer_enabled(control: u16) -> bool
+pub(crate) fn is_timer_enabled(control: u16) -> bool
     ensures { λ t. ⌜ t ≡ isTimerEnabled control ⌝ }
 {
     control / 0x800 % 2 == 1
@@ -57,31 +57,31 @@ fn is_either(scan: u16, one: u16, other: u16) -> bool
     scan == other
 }
 
-pub fn is_differential(r: Registers) -> bool
+pub(crate) fn is_differential(r: Registers) -> bool
     ensures { λ t. ⌜ t ≡ isDifferential r ⌝ }
 {
     acquisition_field(r.control) == 0
 }
 
-pub fn is_uniform(r: Registers) -> bool
+pub(crate) fn is_uniform(r: Registers) -> bool
     ensures { λ t. ⌜ t ≡ isUniform r ⌝ }
 {
     is_either(scan_field(r.control), 1, 2)
 }
 
-pub fn is_burst(r: Registers) -> bool
+pub(crate) fn is_burst(r: Registers) -> bool
     ensures { λ t. ⌜ t ≡ isBurst r ⌝ }
 {
     is_either(scan_field(r.control), 3, 4)
 }
 
-pub fn is_single(r: Registers) -> bool
+pub(crate) fn is_single(r: Registers) -> bool
     ensures { λ t. ⌜ t ≡ isSingle r ⌝ }
 {
     is_either(scan_field(r.control), 2, 4)
 }
 
-pub fn is_timed(r: Registers) -> bool
+pub(crate) fn is_timed(r: Registers) -> bool
     ensures { λ t. ⌜ t ≡ isTimed r ⌝ }
 {
     if is_uniform(r) {
@@ -90,14 +90,14 @@ pub fn is_timed(r: Registers) -> bool
     is_burst(r)
 }
 
-pub fn is_trigger_only(r: Registers) -> bool
+pub(crate) fn is_trigger_only(r: Registers) -> bool
     ensures { λ t. ⌜ t ≡ isTriggerOnly r ⌝ }
 {
     scan_field(r.control) == 5
 }
 
 // The conversions of a pass.
-pub fn pass_length(r: Registers) -> u32
+pub(crate) fn pass_length(r: Registers) -> u32
     ensures { λ m. ⌜ m ≡ passLength r ⌝ }
 {
     let start = r.start as u32;
@@ -108,13 +108,13 @@ pub fn pass_length(r: Registers) -> u32
     end - start + 1
 }
 
-pub fn interval_of(r: Registers) -> u32
+pub(crate) fn interval_of(r: Registers) -> u32
     ensures { λ i. ⌜ i ≡ interval r ⌝ }
 {
     (r.prescaler as u32) * (r.timer as u32)
 }
 
-pub fn burst_delay(r: Registers) -> u32
+pub(crate) fn burst_delay(r: Registers) -> u32
     ensures { λ d. ⌜ d ≡ burstDelay r ⌝ }
 {
     if scan_field(r.control) != 3 {
@@ -127,7 +127,7 @@ pub fn burst_delay(r: Registers) -> u32
 }
 
 // Whether a store raises an interrupt.
-pub fn is_interrupting(r: Registers, ends: bool) -> bool
+pub(crate) fn is_interrupting(r: Registers, ends: bool) -> bool
     ensures { λ t. ⌜ t ≡ isInterrupting r ends ⌝ }
 {
     let choice = interrupt_field(r.control);

@@ -265,7 +265,7 @@ const CLASSES: [u8; 256] = [
 ];
 
 // The class of a byte offset; beyond the map there is nothing.
-pub fn class_at(offset: u32) -> u8
+pub(crate) fn class_at(offset: u32) -> u8
     ensures { λ r. ⌜ registerOf r ≡ classOf offset ⌝ }
 {
     if offset < 256 {

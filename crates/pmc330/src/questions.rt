@@ -137,7 +137,7 @@ fn is_start(class: u8, word: u32) -> bool
 }
 
 // Question 9.
-pub fn has_channels(r: Registers) -> bool
+pub(crate) fn has_channels(r: Registers) -> bool
     ensures { λ t. ⌜ t ≡ hasChannels r ⌝ }
 {
     if r.end < r.start {
@@ -150,7 +150,7 @@ pub fn has_channels(r: Registers) -> bool
 }
 
 // Question 10.
-pub fn has_interval(r: Registers) -> bool
+pub(crate) fn has_interval(r: Registers) -> bool
     ensures { λ t. ⌜ t ≡ hasInterval r ⌝ }
 {
     if fields::is_uniform(r) {
@@ -169,7 +169,7 @@ pub fn has_interval(r: Registers) -> bool
 }
 
 // Questions 1 to 3.
-pub fn access_number(width: u32, offset: u32, class: u8) -> u8
+pub(crate) fn access_number(width: u32, offset: u32, class: u8) -> u8
     ensures { λ n. ⌜ n ≡ firstNo (accessQuestions width offset (registerOf class)) ⌝ }
 {
     if !is_width(width) {
@@ -184,7 +184,7 @@ pub fn access_number(width: u32, offset: u32, class: u8) -> u8
     0
 }
 
-pub fn read_number(width: u32, offset: u32, class: u8) -> u8
+pub(crate) fn read_number(width: u32, offset: u32, class: u8) -> u8
     ensures { λ n. ⌜ n ≡ firstNo (readQuestionsOf width offset (registerOf class)) ⌝ }
 {
     let access = access_number(width, offset, class);
@@ -232,7 +232,7 @@ fn word_number(r: Registers, idle: bool, class: u8, word: u32, resulting: Regist
     start_number(r)
 }
 
-pub fn write_number(
+pub(crate) fn write_number(
     r: Registers,
     idle: bool,
     width: u32,
@@ -261,7 +261,7 @@ fn is_input(microvolts: i32) -> bool
     -35_000_000 <= microvolts && microvolts <= 55_000_000
 }
 
-pub fn input_number(channel: u32, microvolts: i32) -> u8
+pub(crate) fn input_number(channel: u32, microvolts: i32) -> u8
     ensures { λ n. ⌜ n ≡ firstNo (inputQuestions channel microvolts) ⌝ }
 {
     if 31 < channel {

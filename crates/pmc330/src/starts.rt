@@ -79,7 +79,7 @@ fn fresh_cycle(r: Registers) -> Cycle
 }
 
 // A cycle starts: all New and Missed bits clear.
-pub fn started_board(b: Board) -> Board
+pub(crate) fn started_board(b: Board) -> Board
     ensures { λ n. ⌜ n ≡ started b ⌝ }
 {
     let r = b.registers;
@@ -140,7 +140,7 @@ fn triggered_idle(b: Board) -> Board
 }
 
 // A trigger: taken, the start of a cycle, or ignored.
-pub fn triggered_board(b: Board) -> Board
+pub(crate) fn triggered_board(b: Board) -> Board
     ensures { λ n. ⌜ n ≡ triggered b ⌝ }
 {
     let r = b.registers;

@@ -21,7 +21,7 @@ fn one_more(count: u8) -> u8
 }
 
 // The code into the mailbox of a slot.
-pub fn put(codes: &mut [u16; 32], unread: &mut [u8; 32], slot: u8, code: u16)
+pub(crate) fn put(codes: &mut [u16; 32], unread: &mut [u8; 32], slot: u8, code: u16)
     ensures { λ _. ⌜ now (codes .exit) ≡ set (now (codes .entry)) (slot % 32) code ⌝ }
     ensures { λ _. ⌜ now (unread .exit) ≡ set (now (unread .entry)) (slot % 32) (min 2 (getD (now (unread .entry)) (slot % 32) 0 + 1)) ⌝ }
 {
@@ -33,13 +33,13 @@ pub fn put(codes: &mut [u16; 32], unread: &mut [u8; 32], slot: u8, code: u16)
 }
 
 // A code in the format in force.
-pub fn formatted_by(r: Registers, code: u16) -> u16
+pub(crate) fn formatted_by(r: Registers, code: u16) -> u16
     ensures { λ n. ⌜ n ≡ formattedBy r code ⌝ }
 {
     analog::formatted(fields::is_straight(r.control), code)
 }
 
-pub fn either(a: bool, b: bool) -> bool
+pub(crate) fn either(a: bool, b: bool) -> bool
     ensures { λ t. ⌜ t ≡ (a || b) ⌝ }
 {
     if a {
@@ -49,7 +49,7 @@ pub fn either(a: bool, b: bool) -> bool
 }
 
 // The conversion in progress is stored if it is due.
-pub fn store_if_due(
+pub(crate) fn store_if_due(
     due: bool,
     r: Registers,
     codes: &mut [u16; 32],

@@ -158,7 +158,7 @@ fn run_timed(b: Board, ticks: u32) -> Run
 }
 
 // Any board, from event to event.
-pub fn run_any(b: Board, ticks: u32) -> Run
+pub(crate) fn run_any(b: Board, ticks: u32) -> Run
     ensures { λ r. ⌜ RunOf ticks b (r .board) (r .stores) ⌝ }
 {
     if !b.cycle.running {
@@ -323,7 +323,7 @@ fn run_spans(b: Board, ticks: u32, span: u32) -> Run
 }
 
 // An advance: some hundreds of steps at the most, for any number of ticks.
-pub fn advance_by(b: Board, ticks: u32) -> Run
+pub(crate) fn advance_by(b: Board, ticks: u32) -> Run
     ensures { λ r. ⌜ RunOf ticks b (r .board) (r .stores) ⌝ }
 {
     let r = b.registers;

@@ -3,7 +3,7 @@ ghost use mathlib.Core.Path.{_≡_};
 ghost use Rattle.pmc330.specs.Widths.{powerOf};
 
 // 2 to the width.
-pub fn power(width: u32) -> u64
+pub(crate) fn power(width: u32) -> u64
     ensures { λ r. ⌜ r ≡ powerOf width ⌝ }
 {
     if width == 8 {

@@ -53,7 +53,7 @@ fn gain_word(gains: [u8; 32], first: usize) -> u32
 }
 
 // The bits of a word that a write sets.
-pub fn held_word(r: Registers, gains: [u8; 32], class: u8) -> u32
+pub(crate) fn held_word(r: Registers, gains: [u8; 32], class: u8) -> u32
     ensures { λ w. ⌜ w ≡ heldWord r gains (registerOf class) ⌝ }
 {
     match class {
@@ -77,7 +77,7 @@ fn mailbox_word(codes: [u16; 32], class: u8) -> u32
 }
 
 // The word that is read.
-pub fn read_word(b: Board, class: u8) -> u32
+pub(crate) fn read_word(b: Board, class: u8) -> u32
     ensures { λ w. ⌜ w ≡ readWord (viewOf b) (registerOf class) ⌝ }
 {
     let r = b.registers;
@@ -121,7 +121,7 @@ fn byte_at(word: u32, place: u32) -> u32
 }
 
 // The bytes of a word that a read covers.
-pub fn read_bytes(width: u32, offset: u32, word: u32) -> u32
+pub(crate) fn read_bytes(width: u32, offset: u32, word: u32) -> u32
     ensures { λ v. ⌜ v ≡ word / 0x100 ^ (offset % 4) % powerOf width ⌝ }
 {
     let rest = word / byte_power(offset % 4);
@@ -144,7 +144,7 @@ fn written_byte(width: u32, offset: u32, value: u32, old: u32, place: u32) -> u3
 }
 
 // The word after a write.
-pub fn written_word(width: u32, offset: u32, value: u32, old: u32) -> u32
+pub(crate) fn written_word(width: u32, offset: u32, value: u32, old: u32) -> u32
     ensures { λ r. ⌜ (r ≡ writtenWord width offset value old) × (r < 65536) ⌝ }
 {
     let low = written_byte(width, offset, value, old, 0);
@@ -153,7 +153,7 @@ pub fn written_word(width: u32, offset: u32, value: u32, old: u32) -> u32
 }
 
 // The registers after a register takes a word of 16 bits.
-pub fn with_word(class: u8, word: u32, r: Registers) -> Registers
+pub(crate) fn with_word(class: u8, word: u32, r: Registers) -> Registers
     ensures { λ n. ⌜ n ≡ withWord (registerOf class) (word % 65536) r ⌝ }
 {
     let taken = word % 65536;
@@ -190,7 +190,7 @@ fn gains_from(gains: [u8; 32], first: usize, word: u32) -> [u8; 32]
 }
 
 // The gains after a register takes a word.
-pub fn gains_with(class: u8, word: u32, gains: [u8; 32]) -> [u8; 32]
+pub(crate) fn gains_with(class: u8, word: u32, gains: [u8; 32]) -> [u8; 32]
     ensures { λ g. ⌜ g ≡ gainsWith (registerOf class) word gains ⌝ }
 {
     match class {
@@ -200,7 +200,7 @@ pub fn gains_with(class: u8, word: u32, gains: [u8; 32]) -> [u8; 32]
 }
 
 // Whether a write releases the interrupt.
-pub fn is_release(class: u8, word: u32) -> bool
+pub(crate) fn is_release(class: u8, word: u32) -> bool
     ensures { λ t. ⌜ t ≡ isRelease (registerOf class) word ⌝ }
 {
     match class {
@@ -210,7 +210,7 @@ pub fn is_release(class: u8, word: u32) -> bool
 }
 
 // Whether a write ends the cycle.
-pub fn is_stop(class: u8, word: u32) -> bool
+pub(crate) fn is_stop(class: u8, word: u32) -> bool
     ensures { λ t. ⌜ t ≡ isStop (registerOf class) word ⌝ }
 {
     match class {
@@ -220,7 +220,7 @@ pub fn is_stop(class: u8, word: u32) -> bool
 }
 
 // Whether a write starts a cycle.
-pub fn is_start(class: u8, word: u32) -> bool
+pub(crate) fn is_start(class: u8, word: u32) -> bool
     ensures { λ t. ⌜ t ≡ isStart (registerOf class) word ⌝ }
 {
     match class {

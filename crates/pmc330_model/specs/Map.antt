@@ -64,110 +64,39 @@ isWritable (missedData half) = false
 isWritable (gain group) = true
 isWritable (mailbox slot) = false
 
+-- what goes for each register that a read or a write treats in its own way, and what for the others
+abbrev pub byRegister :
+    {A : Type 0} → Register → (onInterrupt onControl onPrescaler onTimer onChannels onStart : A) → (onGain onMailbox : ℕ → A) → A → A
+byRegister unmapped i c p t ch s g m otherwise = otherwise
+byRegister interrupt i c p t ch s g m otherwise = i
+byRegister control i c p t ch s g m otherwise = c
+byRegister prescaler i c p t ch s g m otherwise = p
+byRegister timer i c p t ch s g m otherwise = t
+byRegister channels i c p t ch s g m otherwise = ch
+byRegister startConvert i c p t ch s g m otherwise = s
+byRegister (newData half) i c p t ch s g m otherwise = otherwise
+byRegister (missedData half) i c p t ch s g m otherwise = otherwise
+byRegister (gain group) i c p t ch s g m otherwise = g group
+byRegister (mailbox slot) i c p t ch s g m otherwise = m slot
+
 -- what goes for one register, and what otherwise
 abbrev pub ifInterrupt : {A : Type 0} → Register → A → A → A
-ifInterrupt unmapped this otherwise = otherwise
-ifInterrupt interrupt this otherwise = this
-ifInterrupt control this otherwise = otherwise
-ifInterrupt prescaler this otherwise = otherwise
-ifInterrupt timer this otherwise = otherwise
-ifInterrupt channels this otherwise = otherwise
-ifInterrupt startConvert this otherwise = otherwise
-ifInterrupt (newData half) this otherwise = otherwise
-ifInterrupt (missedData half) this otherwise = otherwise
-ifInterrupt (gain group) this otherwise = otherwise
-ifInterrupt (mailbox slot) this otherwise = otherwise
+ifInterrupt register this o = byRegister register this o o o o o (λ group. o) (λ slot. o) o
 
 abbrev pub ifControl : {A : Type 0} → Register → A → A → A
-ifControl unmapped this otherwise = otherwise
-ifControl interrupt this otherwise = otherwise
-ifControl control this otherwise = this
-ifControl prescaler this otherwise = otherwise
-ifControl timer this otherwise = otherwise
-ifControl channels this otherwise = otherwise
-ifControl startConvert this otherwise = otherwise
-ifControl (newData half) this otherwise = otherwise
-ifControl (missedData half) this otherwise = otherwise
-ifControl (gain group) this otherwise = otherwise
-ifControl (mailbox slot) this otherwise = otherwise
-
-abbrev pub ifPrescaler : {A : Type 0} → Register → A → A → A
-ifPrescaler unmapped this otherwise = otherwise
-ifPrescaler interrupt this otherwise = otherwise
-ifPrescaler control this otherwise = otherwise
-ifPrescaler prescaler this otherwise = this
-ifPrescaler timer this otherwise = otherwise
-ifPrescaler channels this otherwise = otherwise
-ifPrescaler startConvert this otherwise = otherwise
-ifPrescaler (newData half) this otherwise = otherwise
-ifPrescaler (missedData half) this otherwise = otherwise
-ifPrescaler (gain group) this otherwise = otherwise
-ifPrescaler (mailbox slot) this otherwise = otherwise
-
-abbrev pub ifTimer : {A : Type 0} → Register → A → A → A
-ifTimer unmapped this otherwise = otherwise
-ifTimer interrupt this otherwise = otherwise
-ifTimer control this otherwise = otherwise
-ifTimer prescaler this otherwise = otherwise
-ifTimer timer this otherwise = this
-ifTimer channels this otherwise = otherwise
-ifTimer startConvert this otherwise = otherwise
-ifTimer (newData half) this otherwise = otherwise
-ifTimer (missedData half) this otherwise = otherwise
-ifTimer (gain group) this otherwise = otherwise
-ifTimer (mailbox slot) this otherwise = otherwise
+ifControl register this o = byRegister register o this o o o o (λ group. o) (λ slot. o) o
 
 abbrev pub ifChannels : {A : Type 0} → Register → A → A → A
-ifChannels unmapped this otherwise = otherwise
-ifChannels interrupt this otherwise = otherwise
-ifChannels control this otherwise = otherwise
-ifChannels prescaler this otherwise = otherwise
-ifChannels timer this otherwise = otherwise
-ifChannels channels this otherwise = this
-ifChannels startConvert this otherwise = otherwise
-ifChannels (newData half) this otherwise = otherwise
-ifChannels (missedData half) this otherwise = otherwise
-ifChannels (gain group) this otherwise = otherwise
-ifChannels (mailbox slot) this otherwise = otherwise
+ifChannels register this o = byRegister register o o o o this o (λ group. o) (λ slot. o) o
 
 abbrev pub ifStartConvert : {A : Type 0} → Register → A → A → A
-ifStartConvert unmapped this otherwise = otherwise
-ifStartConvert interrupt this otherwise = otherwise
-ifStartConvert control this otherwise = otherwise
-ifStartConvert prescaler this otherwise = otherwise
-ifStartConvert timer this otherwise = otherwise
-ifStartConvert channels this otherwise = otherwise
-ifStartConvert startConvert this otherwise = this
-ifStartConvert (newData half) this otherwise = otherwise
-ifStartConvert (missedData half) this otherwise = otherwise
-ifStartConvert (gain group) this otherwise = otherwise
-ifStartConvert (mailbox slot) this otherwise = otherwise
+ifStartConvert register this o = byRegister register o o o o o this (λ group. o) (λ slot. o) o
 
 abbrev pub ifGain : {A : Type 0} → Register → ((group : ℕ) → A) → A → A
-ifGain unmapped this otherwise = otherwise
-ifGain interrupt this otherwise = otherwise
-ifGain control this otherwise = otherwise
-ifGain prescaler this otherwise = otherwise
-ifGain timer this otherwise = otherwise
-ifGain channels this otherwise = otherwise
-ifGain startConvert this otherwise = otherwise
-ifGain (newData half) this otherwise = otherwise
-ifGain (missedData half) this otherwise = otherwise
-ifGain (gain group) this otherwise = this group
-ifGain (mailbox slot) this otherwise = otherwise
+ifGain register this o = byRegister register o o o o o o this (λ slot. o) o
 
 abbrev pub ifMailbox : {A : Type 0} → Register → ((slot : ℕ) → A) → A → A
-ifMailbox unmapped this otherwise = otherwise
-ifMailbox interrupt this otherwise = otherwise
-ifMailbox control this otherwise = otherwise
-ifMailbox prescaler this otherwise = otherwise
-ifMailbox timer this otherwise = otherwise
-ifMailbox channels this otherwise = otherwise
-ifMailbox startConvert this otherwise = otherwise
-ifMailbox (newData half) this otherwise = otherwise
-ifMailbox (missedData half) this otherwise = otherwise
-ifMailbox (gain group) this otherwise = otherwise
-ifMailbox (mailbox slot) this otherwise = this slot
+ifMailbox register this o = byRegister register o o o o o o (λ group. o) this o
 
 -- "24H Start Convert, write only"
 abbrev pub isReadable : Register → Bool

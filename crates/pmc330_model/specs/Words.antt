@@ -4,7 +4,7 @@ use mathlib.Core.Bool.{Bool, false, cond, _&&_}
 use mathlib.Core.List.{List}
 use lib.Dec.{eqb, ltb, leb}
 use lib.ListN.{getD, set}
-use Rattle.pmc330_model.specs.Map.{Register, unmapped, interrupt, control, prescaler, timer, channels, startConvert, newData, missedData, gain, mailbox, ifInterrupt, ifControl, ifPrescaler, ifTimer, ifChannels, ifStartConvert, ifGain, keptControl, scanField}
+use Rattle.pmc330_model.specs.Map.{Register, unmapped, interrupt, control, prescaler, timer, channels, startConvert, newData, missedData, gain, mailbox, byRegister, ifInterrupt, ifControl, ifStartConvert, ifGain, keptControl, scanField}
 use Rattle.pmc330_model.specs.declared.Registers.{Registers}
 
 -- count digits to a base, the first one lowest: a word of bits or of two-bit gains
@@ -81,12 +81,16 @@ writtenWord width offset value old =
 -- the registers after a register takes a word
 unfoldable pub withWord : Register → (word : ℕ) → Registers → Registers
 withWord register word r =
-    ifInterrupt register (record { enable = bitOf 0 word; control = r .control; prescaler = r .prescaler; timer = r .timer; start = r .start; end = r .end })
-    (ifControl register (record { enable = r .enable; control = keptControl word; prescaler = r .prescaler; timer = r .timer; start = r .start; end = r .end })
-    (ifPrescaler register (record { enable = r .enable; control = r .control; prescaler = word / 0x100; timer = r .timer; start = r .start; end = r .end })
-    (ifTimer register (record { enable = r .enable; control = r .control; prescaler = r .prescaler; timer = word; start = r .start; end = r .end })
-    (ifChannels register (record { enable = r .enable; control = r .control; prescaler = r .prescaler; timer = r .timer; start = word % 0x100; end = word / 0x100 })
-    r))))
+    byRegister register
+    (record { enable = bitOf 0 word; control = r .control; prescaler = r .prescaler; timer = r .timer; start = r .start; end = r .end })
+    (record { enable = r .enable; control = keptControl word; prescaler = r .prescaler; timer = r .timer; start = r .start; end = r .end })
+    (record { enable = r .enable; control = r .control; prescaler = word / 0x100; timer = r .timer; start = r .start; end = r .end })
+    (record { enable = r .enable; control = r .control; prescaler = r .prescaler; timer = word; start = r .start; end = r .end })
+    (record { enable = r .enable; control = r .control; prescaler = r .prescaler; timer = r .timer; start = word % 0x100; end = word / 0x100 })
+    r
+    (λ group. r)
+    (λ slot. r)
+    r
 
 -- the gains after the first count channels from one on take their two bits each
 unfoldable pub gainsFrom : (channel word count : ℕ) → List ℕ → List ℕ

@@ -59,7 +59,7 @@ fn advance(board: Board, body: &[u8]) -> Reply
 }
 
 // The call of a tag and a body. A tag that is no other call's is taken as reset.
-pub fn call(board: Board, tag: u8, body: &[u8]) -> Reply
+pub(crate) fn call(board: Board, tag: u8, body: &[u8]) -> Reply
     requires { ⌜ length (now body) ≡ lengthOf tag ⌝ }
     ensures { λ r. ⌜ r ≡ boardCall board (callOf tag (now (body .entry))) ⌝ }
 {
@@ -100,7 +100,7 @@ fn value_of(answer: Answer) -> u32
 }
 
 // The answer's five bytes at the front of what is left of the buffer.
-pub fn put(rest: &mut [u8], answer: Answer)
+pub(crate) fn put(rest: &mut [u8], answer: Answer)
     requires { ⌜ 5 ≤ length (now rest) ⌝ }
     ensures { λ r. ⌜ now (rest .exit) ≡ answerBytes answer ++ drop 5 (now (rest .entry)) ⌝ }
 {

@@ -16,7 +16,7 @@ pub enum Checked {
 // The length of the body by its tag, 00H to 06H.
 const LENGTHS: [usize; 7] = [5, 3, 7, 5, 4, 0, 0];
 
-pub fn length_of(tag: u8) -> usize
+pub(crate) fn length_of(tag: u8) -> usize
     ensures { λ r. ⌜ (r ≡ lengthOf tag) × (r < 8) ⌝ }
 {
     if tag < 7 {
@@ -35,7 +35,7 @@ fn is_call_tag(tag: u8) -> bool
     tag < 7
 }
 
-pub fn wide(x: u8) -> u32
+pub(crate) fn wide(x: u8) -> u32
     ensures { λ r. ⌜ (r ≡ x) × (r < 256) ⌝ }
 {
     x as u32
@@ -51,7 +51,7 @@ fn byte_at(bytes: &[u8], i: usize) -> u32
 }
 
 // The number in at most four bytes, low byte first.
-pub fn number(bytes: &[u8]) -> u32
+pub(crate) fn number(bytes: &[u8]) -> u32
     requires { ⌜ length (now bytes) ≤ 4 ⌝ }
     ensures { λ r. ⌜ r ≡ lowFirst (now (bytes .entry)) ⌝ }
 {
@@ -103,7 +103,7 @@ fn same_bytes(a: &[u8], b: &[u8]) -> bool
 }
 
 // Whether the trace begins with the heading.
-pub fn is_heading(trace: &[u8]) -> bool
+pub(crate) fn is_heading(trace: &[u8]) -> bool
     ensures { λ t. ⌜ t ≡ isHeading (now (trace .entry)) ⌝ }
 {
     if !is_whole(trace, 0) {
@@ -119,7 +119,7 @@ pub fn is_heading(trace: &[u8]) -> bool
 }
 
 // The check of the later fields: no board is asked.
-pub fn check_fields(trace: &[u8]) -> Checked
+pub(crate) fn check_fields(trace: &[u8]) -> Checked
     requires { ⌜ 8 ≤ length (now trace) ⌝ }
     ensures found { λ r. ⌜ r ≡ counted 0 (laterFields (now (trace .entry))) ⌝ }
     ensures most { λ r. ⌜ countOf r ≤ length (now (trace .entry)) ⌝ }
