@@ -21,14 +21,14 @@ static void head(uint8_t tag, uint16_t length) {
 }
 
 static void new_board(uint8_t range) {
-    head(0x00, 5);
-    memcpy(trace + trace_len, "A330", 4);
+    head(PMC330_TAG_HEADING, PMC330_LENGTH_HEADING);
+    memcpy(trace + trace_len, PMC330_HEADING, 4);
     trace_len += 4;
     put(range, 1);
 }
 
 static void write_register(uint8_t width, uint16_t offset, uint32_t value) {
-    head(0x02, 7);
+    head(PMC330_TAG_WRITE, PMC330_LENGTH_WRITE);
     put(width, 1);
     put(offset, 2);
     put(value, 4);
@@ -36,49 +36,50 @@ static void write_register(uint8_t width, uint16_t offset, uint32_t value) {
 }
 
 static void read_register(uint8_t width, uint16_t offset) {
-    head(0x01, 3);
+    head(PMC330_TAG_READ, PMC330_LENGTH_READ);
     put(width, 1);
     put(offset, 2);
     calls++;
 }
 
 static void input(uint8_t channel, int32_t microvolts) {
-    head(0x03, 5);
+    head(PMC330_TAG_INPUT, PMC330_LENGTH_INPUT);
     put(channel, 1);
     put((uint32_t)microvolts, 4);
     calls++;
 }
 
 static void advance(uint32_t ticks) {
-    head(0x04, 4);
+    head(PMC330_TAG_ADVANCE, PMC330_LENGTH_ADVANCE);
     put(ticks, 4);
     calls++;
 }
 
 int main(void) {
-    uint8_t answers[5 * 64];
+    uint8_t answers[PMC330_ANSWER_BYTES * 64];
 
-    new_board(1);                    /* +-10 V */
+    new_board(PMC330_RANGE_PM10V);
     input(0, 2500000);
     input(1, -2500000);
-    write_register(16, 0x10, 0x0100); /* channels 0 and 1 */
-    write_register(16, 0x04, 0x0409); /* straight, single ended, burst single */
-    write_register(16, 0x24, 1);      /* Start Convert */
-    advance(184);                     /* both stores: at 64 and 184 */
-    read_register(16, 0x14);          /* New Data */
-    read_register(16, 0x80);          /* mailbox 0 */
-    read_register(16, 0x84);          /* mailbox 1 */
-    write_register(16, 0x14, 0);      /* refused with 5: read only */
+    write_register(16, PMC330_CHANNELS, PMC330_CHANNELS_WORD(0U, 1U));
+    write_register(16, PMC330_CONTROL,
+                   PMC330_FORMAT_STRAIGHT | PMC330_ACQUISITION_SINGLE_ENDED | PMC330_SCAN_BURST_SINGLE);
+    write_register(16, PMC330_START_CONVERT, PMC330_START);
+    advance(PMC330_BURST_TICKS + PMC330_CONVERSION_TICKS); /* both stores: at 64 and 184 */
+    read_register(16, PMC330_NEW_DATA_LOW);
+    read_register(16, PMC330_MAILBOX(0));
+    read_register(16, PMC330_MAILBOX(1));
+    write_register(16, PMC330_NEW_DATA_LOW, 0); /* refused with 5: read only */
 
     uint64_t result = pmc330_play(trace, trace_len, answers, sizeof answers);
-    if (result % 256 != 0) {
-        printf("refused %u\n", (unsigned)(result % 256));
+    if (PMC330_NUMBER(result) != 0) {
+        printf("refused %u\n", (unsigned)PMC330_NUMBER(result));
         return 1;
     }
-    for (uint64_t i = 0; i < result / 256; i++) {
-        const uint8_t *a = answers + 5 * i;
+    for (uint32_t i = 0; i < PMC330_VALUE(result); i++) {
+        const uint8_t *a = answers + PMC330_ANSWER_BYTES * i;
         uint32_t value = a[1] | (uint32_t)a[2] << 8 | (uint32_t)a[3] << 16 | (uint32_t)a[4] << 24;
         printf("%u %u %08X\n", (unsigned)(i + 1), a[0], (unsigned)value);
     }
-    return result / 256 == calls ? 0 : 1;
+    return PMC330_VALUE(result) == calls ? 0 : 1;
 }

@@ -4,18 +4,19 @@ use mathlib.Core.Logic.{_⊎_, inl, inr}
 use Prim.Native.Nat.{ℕ, _+_, _-_, _<_, _≤_}
 use native.Mathlib.Omega.{arith}
 use lib.Dec.{ltb}
-use lib.IntN.{ℤ, pos, negsuc, _-ℤ_, _*ℤ_}
+use lib.IntN.{ℤ, pos, negsuc}
 use borrow.Author.Tests.{lt-ltb, le-ltb}
-use Rattle.analog.specs.Code.{gainOf, lowEnd, widthOf, roundedDown, limited, codeOf, inFormat}
+use Rattle.analog.specs.Code.{limited, codeOf, inFormat}
 use Rattle.analog.proofs.Integers.{lt-or-le}
 
+-- whatever is limited
 limited-below : (z : ℤ) → limited z < 65536
 limited-below (pos n) = omega arith
 limited-below (negsuc n) = omega arith
 
 pub code-below : (range gain : ℕ) (v : ℤ) → codeOf range gain v < 65536
 unfolding codeOf
-code-below range gain v = limited-below (roundedDown ((v *ℤ pos (gainOf gain) -ℤ lowEnd range) *ℤ pos 65536) (widthOf range))
+code-below range gain v = search limited-below
 
 flipped-below : (code : ℕ) → code < 65536 → (code < 0x8000) ⊎ (0x8000 ≤ code) → cond (ltb code 0x8000) (code + 0x8000) (code - 0x8000) < 65536
 flipped-below code h (inl low) = rw (lt-ltb code 0x8000 low) (omega arith)

@@ -1,14 +1,15 @@
 -- The code of a voltage by unsigned numbers.
 use mathlib.Core.Path.{_≡_, refl, sym, ap, _∙_}
-use Prim.Native.Nat.{ℕ, suc, _+_, _-_, _*_, _/_, _≤_, _<_, min}
+use Prim.Native.Nat.{ℕ, suc, _+_, _-_, _*_, _≤_, _<_, min}
 use native.Mathlib.Nat.{mul-le-mul, mul-le-mul-left, le-of-lt}
 use native.Mathlib.Omega.{arith}
 use lib.IntN.{ℤ, pos, negsuc, negℤ, subℕ, _+ℤ_, _*ℤ_}
 use lib.Signed.{mag}
-use Rattle.analog.specs.Code.{lowEnd, widthOf, gainOf, roundedDown, limited, codeOf}
+use Rattle.analog.specs.Code.{lowEnd, widthOf, gainOf, codeOf}
 use Rattle.analog.specs.Machine.{raisedOf, depthOf, factorOf, limitedQuotient}
-use Rattle.analog.proofs.Integers.{sub-ge, sub-lt, plus, times, limited-difference}
-use Rattle.analog.proofs.Ranges.{low-end, code-reduced}
+use Rattle.analog.proofs.Integers.{sub-ge, sub-lt, plus, times, times-one}
+use Rattle.analog.proofs.FractionLaws.{whole-over, limited-down}
+use Rattle.analog.proofs.Ranges.{low-end, some-width, code-reduced}
 
 -- the raised voltage, as the code computes it
 pub raised-sum : (v : ℤ) → mag v < 2_147_483_648 → v +ℤ pos 2_147_483_648 ≡ pos (raisedOf v)
@@ -40,9 +41,8 @@ module _ (range gain : ℕ) (v : ℤ) (fits : mag v < 2_147_483_648) where
   code-law =
       let a : ℕ = raisedOf v * gainOf gain + depthOf range in
       let b : ℕ = 2_147_483_648 * gainOf gain in
-      ap (λ (u : ℤ). limited (roundedDown (u *ℤ pos 65536) (widthOf range))) scaled
-      ∙ ap (λ (u : ℤ). limited (roundedDown u (widthOf range))) (times a b 65536)
-      ∙ limited-difference (a * 65536) (b * 65536) (widthOf range)
+      rw (whole-over (some-width range))
+      (simp (times-one, scaled, times) (limited-down (a * 65536) (b * 65536) (widthOf range) (some-width range)))
       ∙ ap (λ (q : ℕ). min q 65535) (code-reduced range a b)
 
 -- the products of the code fit 64 bits

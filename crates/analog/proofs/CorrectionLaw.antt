@@ -1,21 +1,29 @@
 -- The corrected count by unsigned numbers.
-use mathlib.Core.Path.{_≡_, refl, sym, ap, ap₂, _∙_}
-use Prim.Native.Nat.{ℕ, _+_, _-_, _*_, _/_, _≤_, _<_, min}
-use native.Mathlib.Nat.{mul-comm, le-of-lt, mul-le-mul}
+use mathlib.Core.Path.{_≡_, ap, ap₂, _∙_}
+use Prim.Native.Nat.{ℕ, _+_, _-_, _*_, _<_, min}
+use native.Mathlib.Nat.{add-mul, mul-comm, mul-assoc, mul-left-comm, mul-one, one-mul, mul-pos, sub-pos-iff-lt, le-of-lt}
 use native.Mathlib.Omega.{arith}
-use lib.IntN.{ℤ, pos, negℤ, subℕ, _+ℤ_, _-ℤ_, _*ℤ_, *ℤ-comm}
-use Rattle.analog.specs.Code.{lowEnd, widthOf, gainOf, calibrationOf, roundedDown, limited}
-use Rattle.analog.specs.Correction.{numerator, denominator, nearest, correctedCount}
+use lib.Dec.{lit<}
+use lib.IntN.{ℤ, pos, subℕ, _-ℤ_, _*ℤ_}
+use Rattle.analog.specs.Code.{widthOf, gainOf, calibrationOf, limited}
+use Rattle.analog.specs.Fractions.{Fraction, fraction, nearest}
+use Rattle.analog.specs.Correction.{exactValue, correctedCount}
 use Rattle.analog.specs.Machine.{depthOf, factorOf, nearestCount}
-use Rattle.analog.proofs.Integers.{sub-ge, minus, plus, times, limited-difference}
-use Rattle.analog.proofs.Ranges.{low-end, correction-reduced}
+use Rattle.analog.proofs.Integers.{exact, minus, plus, times-one, times-left, negation-times}
+use Rattle.analog.proofs.FractionLaws.{same, whole-over, one-over, limited-nearest}
+use Rattle.analog.proofs.Ranges.{low-end, some-width, cancelled, correction-reduced}
 
--- a difference that is not negative
-exact : (a b : ℕ) → b ≤ a → pos a -ℤ pos b ≡ pos (a - b)
-exact a b h = minus a b ∙ sub-ge a b h
+-- 1024 is 32 × 32, from CH and CL: it stands in every product of the formula, above and below
+taken-out : (x y : ℕ) → x * 1024 * y ≡ 1024 * (x * y)
+taken-out x y = rw (mul-comm x 1024, mul-assoc 1024 x y)
 
-times-left : (k a b : ℕ) → pos k *ℤ subℕ a b ≡ subℕ (k * a) (k * b)
-times-left k a b = *ℤ-comm (pos k) (subℕ a b) ∙ times a b k ∙ rw (mul-comm a k, mul-comm b k)
+top-taken-out :
+    (slope raw low depth span : ℕ)
+    → 65536 * (slope * 1024 * (raw * 32) + low * (1024 * span) + depth * (1024 * span))
+    ≡ 1024 * (65536 * (slope * (32 * raw) + (low + depth) * span))
+top-taken-out slope raw low depth span =
+    rw (taken-out slope (raw * 32), mul-comm raw 32, mul-left-comm low 1024 span, mul-left-comm depth 1024 span, add-mul low depth span)
+    (omega arith)
 
 module _ (range gain high low highSum lowSum raw : ℕ) (voltages : calibrationOf low < calibrationOf high) (sums : lowSum < highSum) where
   abbrev slope : ℕ
@@ -30,33 +38,37 @@ module _ (range gain high low highSum lowSum raw : ℕ) (voltages : calibrationO
   abbrev down : ℕ
   down = slope * lowSum
 
+  some-bottom : 0 < 1024 * (widthOf range * span)
+  some-bottom = mul-pos (lit< tt) (mul-pos (some-width range) (sub-pos-iff-lt .1 sums))
+
   sloped :
-      pos (gainOf gain) *ℤ (pos (calibrationOf high) -ℤ pos (calibrationOf low)) *ℤ (pos (32 * raw) -ℤ pos lowSum)
-      ≡ subℕ (slope * (32 * raw)) (slope * lowSum)
+      pos (gainOf gain) *ℤ (pos (calibrationOf high) -ℤ pos (calibrationOf low)) *ℤ pos 1024 *ℤ (pos (raw * 32) -ℤ pos lowSum)
+      ≡ subℕ (slope * 1024 * (raw * 32)) (slope * 1024 * lowSum)
   sloped =
-      ap₂ (λ (v u : ℤ). pos (gainOf gain) *ℤ v *ℤ u) (exact _ _ (le-of-lt voltages)) (minus (32 * raw) lowSum)
-      ∙ times-left slope (32 * raw) lowSum
+      ap₂ (λ (v u : ℤ). pos (gainOf gain) *ℤ v *ℤ pos 1024 *ℤ u) (exact _ _ (le-of-lt voltages)) (minus (raw * 32) lowSum)
+      ∙ times-left (slope * 1024) (raw * 32) lowSum
 
-  based :
-      (pos (calibrationOf low) *ℤ pos (gainOf gain) -ℤ lowEnd range) *ℤ (pos highSum -ℤ pos lowSum)
-      ≡ pos ((calibrationOf low * gainOf gain + depthOf range) * span)
-  based =
-      ap₂ (λ (v u : ℤ). (pos (calibrationOf low * gainOf gain) +ℤ v) *ℤ u) (low-end range) (exact _ _ (le-of-lt sums))
-
-  exact-value : numerator range gain high low highSum lowSum raw ≡ subℕ (65536 * up) (65536 * down)
-  exact-value =
-      ap₂ (λ (v u : ℤ). pos 65536 *ℤ (v +ℤ u)) sloped based
-      ∙ ap (λ (v : ℤ). pos 65536 *ℤ v) (plus (slope * (32 * raw)) (slope * lowSum) _)
-      ∙ times-left 65536 up down
+  -- the formula's value as one fraction
+  one-fraction :
+      exactValue range gain high low highSum lowSum raw
+      ≡ fraction (subℕ (1024 * (65536 * up)) (1024 * (65536 * down))) (1024 * (widthOf range * span)) some-bottom
+  one-fraction =
+      let less : lowSum * 1 * 32 < highSum * 1 * 32 = omega arith in
+      let bottom : (highSum * 32 - lowSum * 32) * 32 ≡ 1024 * span = omega arith in
+      rw (whole-over (some-width range), one-over less)
+      (same
+      (simp (times-one, mul-one, one-mul, bottom, sloped, negation-times, low-end, plus, times-left)
+      (ap₂ subℕ (top-taken-out slope raw (calibrationOf low * gainOf gain) (depthOf range) span) (rw (taken-out slope lowSum) (omega arith))))
+      (simp (mul-one, one-mul, bottom) (mul-left-comm (widthOf range) 1024 span)))
 
   pub correction-law :
       correctedCount range gain high low highSum lowSum raw
       ≡ nearestCount (gainOf gain * (calibrationOf high - calibrationOf low)) (calibrationOf low * gainOf gain + depthOf range) (factorOf range) (highSum - lowSum) lowSum raw
   unfolding correctedCount
   correction-law =
-      let d : ℕ = denominator range highSum lowSum in
-      ap (λ (v : ℤ). limited (roundedDown (v *ℤ pos 2 +ℤ pos d) (d * 2))) exact-value
-      ∙ ap (λ (v : ℤ). limited (roundedDown (v +ℤ pos d) (d * 2))) (times (65536 * up) (65536 * down) 2)
-      ∙ ap (λ (v : ℤ). limited (roundedDown v (d * 2))) (plus (65536 * up * 2) (65536 * down * 2) d)
-      ∙ limited-difference (65536 * up * 2 + d) (65536 * down * 2) (d * 2)
-      ∙ ap (λ (q : ℕ). min q 65535) (correction-reduced range up down span)
+      let d : ℕ = widthOf range * span in
+      ap (λ (x : Fraction). limited (nearest x)) one-fraction
+      ∙ limited-nearest (1024 * (65536 * up)) (1024 * (65536 * down)) (1024 * d) some-bottom
+      ∙ ap (λ (q : ℕ). min q 65535)
+      (cancelled 1024 (65536 * up * 2 + d - 65536 * down * 2) (d * 2) (lit< tt) (omega arith) (omega arith)
+      ∙ correction-reduced range up down span)

@@ -1,13 +1,12 @@
 -- The integers as differences of two naturals: every sum and product of the definitions is one such difference.
 use mathlib.Core.Path.{_≡_, refl, sym, ap, _∙_}
 use mathlib.Core.Logic.{_⊎_, inl, inr, ⊎-elim}
-use Prim.Native.Nat.{ℕ, zero, suc, _+_, _-_, _*_, _/_, _≤_, _<_, min}
+use Prim.Native.Nat.{ℕ, zero, suc, _+_, _-_, _*_, _≤_, _<_}
 use native.Mathlib.Decide.{decLe}
-use native.Mathlib.Nat.{lt-of-not-le, mul-comm, mul-sub, mul-zero, mul-le-mul-right, zero-div, add-zero}
+use native.Mathlib.Nat.{lt-of-not-le, mul-comm, mul-sub, mul-one, zero-mul, mul-le-mul-right}
 use native.Mathlib.Omega.{arith}
-use lib.IntN.{ℤ, pos, negsuc, negℤ, subℕ, _+ℤ_, _-ℤ_, _*ℤ_}
+use lib.IntN.{ℤ, pos, negsuc, negℤ, subℕ, _+ℤ_, _-ℤ_, _*ℤ_, *ℤ-comm, negℤ-negℤ}
 use borrow.Author.Tests.{lt-ltb, le-ltb}
-use Rattle.analog.specs.Code.{roundedDown, limited}
 
 pub lt-or-le : (a b : ℕ) → (a < b) ⊎ (b ≤ a)
 lt-or-le a b = go (decLe b a)
@@ -25,6 +24,10 @@ sub-lt a b h = rw (lt-ltb a b h)
 pub minus : (a b : ℕ) → pos a -ℤ pos b ≡ subℕ a b
 minus a zero = ap pos (omega arith) ∙ sym (sub-ge a 0 (omega arith))
 minus a (suc b) = refl
+
+-- a difference that is not negative
+pub exact : (a b : ℕ) → b ≤ a → pos a -ℤ pos b ≡ pos (a - b)
+exact a b h = minus a b ∙ sub-ge a b h
 
 pub negation : (n : ℕ) → negℤ (pos n) ≡ subℕ 0 n
 negation zero = refl
@@ -75,12 +78,15 @@ times a b k =
     less : a < b → a ≤ b
     less h = omega arith
 
--- a difference rounded down and limited; where it is negative, the natural one is 0 and so is the result
-pub limited-difference : (a b bottom : ℕ) → limited (roundedDown (subℕ a b) bottom) ≡ min ((a - b) / bottom) 65535
-limited-difference a b bottom =
-    ⊎-elim
-    (λ (h : a < b).
-    let none : a - b ≡ 0 = omega arith in
-    ap (λ (z : ℤ). limited (roundedDown z bottom)) (sub-lt a b h) ∙ rw (none, zero-div bottom))
-    (λ (h : b ≤ a). ap (λ (z : ℤ). limited (roundedDown z bottom)) (sub-ge a b h))
-    (lt-or-le a b)
+pub times-one : (z : ℤ) → z *ℤ pos 1 ≡ z
+times-one (pos n) = ap pos (mul-one n)
+times-one (negsuc n) = ap (λ (m : ℕ). negℤ (pos m)) (mul-one (suc n))
+
+pub times-left : (k a b : ℕ) → pos k *ℤ subℕ a b ≡ subℕ (k * a) (k * b)
+times-left k a b = *ℤ-comm (pos k) (subℕ a b) ∙ times a b k ∙ rw (mul-comm a k, mul-comm b k)
+
+-- the sign of a product
+pub negation-times : (z : ℤ) (k : ℕ) → negℤ (z *ℤ pos k) ≡ negℤ z *ℤ pos k
+negation-times (pos zero) k = rw zero-mul
+negation-times (pos (suc n)) k = refl
+negation-times (negsuc n) k = negℤ-negℤ (pos (suc n * k))

@@ -1,5 +1,5 @@
 -- What the code's tables say of the ranges, the gains and the calibration voltages.
-use mathlib.Core.Path.{_≡_, refl, sym, ap, _∙_}
+use mathlib.Core.Path.{_≡_, refl}
 use mathlib.Core.Bool.{Bool, true, false, _&&_}
 use mathlib.Core.List.{List, [], _∷_}
 use Prim.Native.Nat.{ℕ, zero, suc, _+_, _-_, _*_, _/_, _%_, _≤_, _<_, zero-le}
@@ -7,7 +7,7 @@ use native.Mathlib.Nat.{mod-mod, mod-lt, mul-div-mul-left}
 use native.Mathlib.Omega.{arith}
 use lib.Dec.{T, leb, leb→le, lit<}
 use lib.ListN.{getD}
-use lib.IntN.{ℤ, pos, negℤ}
+use lib.IntN.{pos, negℤ}
 use Rattle.analog.specs.Code.{lowEnd, widthOf, gainOf, calibrationOf}
 use Rattle.analog.specs.Machine.{depthOf, factorOf}
 
@@ -24,6 +24,9 @@ four P p₀ p₁ p₂ p₃ n = go (n % 4) (mod-lt n (lit< tt))
 
 pub low-end : (range : ℕ) → negℤ (lowEnd range) ≡ pos (depthOf range)
 low-end range = rw mod-mod at (four (λ i. negℤ (lowEnd i) ≡ pos (depthOf i)) refl refl refl refl range)
+
+pub some-width : (range : ℕ) → 0 < widthOf range
+some-width range = rw mod-mod at (four (λ i. 0 < widthOf i) (lit< tt) (lit< tt) (lit< tt) (lit< tt) range)
 
 -- no entry of a table is above n, by a test that is computed
 abbrev within : ℕ → List ℕ → Bool
@@ -53,7 +56,7 @@ calibration-bound acquisition =
     bounded 4_900_000 (0 ∷ 0 ∷ 0 ∷ 4_900_000 ∷ 2_450_000 ∷ 1_225_000 ∷ 612_500 ∷ 0 ∷ []) tt (acquisition % 8)
 
 -- a fraction with a common factor
-cancelled : (k top bottom : ℕ) {x y : ℕ} → 0 < k → x ≡ k * top → y ≡ k * bottom → x / y ≡ top / bottom
+pub cancelled : (k top bottom : ℕ) {x y : ℕ} → 0 < k → x ≡ k * top → y ≡ k * bottom → x / y ≡ top / bottom
 cancelled k top bottom some p q = rw (p, q, mul-div-mul-left top bottom some)
 
 -- 65536 / s is the range's factor over 78125

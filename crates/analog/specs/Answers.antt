@@ -1,6 +1,6 @@
 -- Document 01, "Questions asked of a call, in order": the answer of a call, and the number of the first no.
 use Prim.Native.Nat.{ℕ, _+_, _*_}
-use mathlib.Core.Bool.{Bool, cond}
+use mathlib.Core.Bool.{Bool, true, false, cond, _&&_}
 use mathlib.Core.List.{List, [], _∷_}
 use lib.Dec.{eqb}
 use Rattle.analog.specs.declared.Answer.{Answer}
@@ -16,6 +16,10 @@ abbrev pub valueOf : Answer → ℕ
 valueOf (Accepted value) = value
 valueOf (Refused number) = 0
 
+abbrev pub isAccepted : Answer → Bool
+isAccepted (Accepted value) = true
+isAccepted (Refused number) = false
+
 -- a question that a call is asked: its number in document 01, and whether its answer is yes
 pub record Question : Type 0 where
   pub number : ℕ
@@ -28,6 +32,11 @@ question number met = record { number = number; met = met }
 unfoldable pub firstNo : List Question → ℕ
 firstNo [] = 0
 firstNo (q ∷ later) = cond (q .met) (firstNo later) (q .number)
+
+-- no question meets a no
+unfoldable pub allMet : List Question → Bool
+allMet [] = true
+allMet (q ∷ later) = q .met && allMet later
 
 -- a call that is asked these questions, in order, and has this value if it is accepted
 unfoldable pub answered : List Question → ℕ → Answer

@@ -1,12 +1,13 @@
 -- Document 01, "Code of a voltage", in its order. Voltages are in uV.
 -- A range and a gain field have four values and an acquisition code eight: of any other number the remainder counts,
--- so that each definition is total. No accepted call has another number.
-use Prim.Native.Nat.{ℕ, _+_, _-_, _/_, _%_, min}
+-- so that each definition is total. No board and no accepted correction has another number.
+use Prim.Native.Nat.{ℕ, _+_, _-_, _%_, min}
 use mathlib.Core.Bool.{Bool, cond}
 use mathlib.Core.List.{[], _∷_}
 use lib.Dec.{ltb}
-use lib.IntN.{ℤ, pos, negsuc, negℤ, _-ℤ_, _*ℤ_}
+use lib.IntN.{ℤ, pos, negsuc, negℤ}
 use lib.ListN.{getD}
+use Rattle.analog.specs.Fractions.{Fraction, whole, natural, _-ℚ_, _*ℚ_, _/ℚ_, roundedDown}
 
 -- "Range 0 is ±5 V, 1 ±10 V, 2 0 to 5 V, 3 0 to 10 V": z, the range's low end
 abbrev pub lowEnd : ℕ → ℤ
@@ -26,11 +27,6 @@ abbrev pub calibrationOf : ℕ → ℕ
 calibrationOf acquisition =
     getD (0 ∷ 0 ∷ 0 ∷ 4_900_000 ∷ 2_450_000 ∷ 1_225_000 ∷ 612_500 ∷ 0 ∷ []) (acquisition % 8) 0
 
--- top / bottom "rounded down"
-abbrev pub roundedDown : ℤ → ℕ → ℤ
-roundedDown (pos top) bottom = pos (top / bottom)
-roundedDown (negsuc top) bottom = negsuc (top / bottom)
-
 -- "then limited to 0..65535"
 abbrev pub limited : ℤ → ℕ
 limited (pos n) = min n 65535
@@ -39,7 +35,10 @@ limited (negsuc n) = 0
 -- "the code is (v × g - z) × 65536 / s rounded down, then limited to 0..65535"
 unfoldable pub codeOf : (range gain : ℕ) (v : ℤ) → ℕ
 codeOf range gain v =
-    limited (roundedDown ((v *ℤ pos (gainOf gain) -ℤ lowEnd range) *ℤ pos 65536) (widthOf range))
+    let g : Fraction = natural (gainOf gain) in
+    let z : Fraction = whole (lowEnd range) in
+    let s : Fraction = natural (widthOf range) in
+    limited (roundedDown ((whole v *ℚ g -ℚ z) *ℚ natural 65536 /ℚ s))
 
 -- "Two's complement format flips bit 15"; a straight code stays. A code has 16 bits, and bit 15 is set from 8000H on
 unfoldable pub inFormat : (straight : Bool) (code : ℕ) → ℕ

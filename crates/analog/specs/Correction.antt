@@ -1,11 +1,11 @@
 -- Document 01, "Two-point correction".
-use Prim.Native.Nat.{ℕ, _-_, _*_}
+use Prim.Native.Nat.{ℕ}
 use mathlib.Core.Bool.{Bool, _&&_}
 use mathlib.Core.List.{List, [], _∷_}
 use lib.Dec.{leb, ltb}
-use lib.IntN.{ℤ, pos, _+ℤ_, _-ℤ_, _*ℤ_}
 use Rattle.analog.specs.Answers.{Question, question, answered}
-use Rattle.analog.specs.Code.{lowEnd, widthOf, gainOf, calibrationOf, roundedDown, limited}
+use Rattle.analog.specs.Code.{lowEnd, widthOf, gainOf, calibrationOf, limited}
+use Rattle.analog.specs.Fractions.{Fraction, whole, natural, _+ℚ_, _-ℚ_, _*ℚ_, _/ℚ_, nearest}
 use Rattle.analog.specs.declared.Answer.{Answer}
 
 -- "both codes 011 to 111"
@@ -33,30 +33,24 @@ correctionQuestions range gain high low highSum lowSum raw =
     ∷ question 17 (ltb lowSum highSum)
     ∷ []
 
--- The exact value, 65536 / s × (m' × (raw - CL) + VL × g - z) with m' = g × (VH - VL) / (CH - CL), as one fraction.
--- CH and CL are the sums over 32, so m' × (raw - CL) = g × (VH - VL) × (32 × raw - low sum) / (high sum - low sum).
--- numerator: 65536 × (g × (VH - VL) × (32 × raw - low sum) + (VL × g - z) × (high sum - low sum))
-abbrev pub numerator : (range gain high low highSum lowSum raw : ℕ) → ℤ
-numerator range gain high low highSum lowSum raw =
-    let g : ℤ = pos (gainOf gain) in
-    let VH : ℤ = pos (calibrationOf high) in
-    let VL : ℤ = pos (calibrationOf low) in
-    let z : ℤ = lowEnd range in
-    pos 65536
-    *ℤ (g *ℤ (VH -ℤ VL) *ℤ (pos (32 * raw) -ℤ pos lowSum) +ℤ (VL *ℤ g -ℤ z) *ℤ (pos highSum -ℤ pos lowSum))
+-- "Equations 1 and 2 of the manuals give, with VH, VL the calibration voltages, CH, CL the sums / 32 and
+-- m' = g × (VH - VL) / (CH - CL): 65536 / s × (m' × (raw - CL) + VL × g - z)", with g, z and s as in the code of a voltage
+abbrev pub exactValue : (range gain high low highSum lowSum raw : ℕ) → Fraction
+exactValue range gain high low highSum lowSum raw =
+    let g : Fraction = natural (gainOf gain) in
+    let z : Fraction = whole (lowEnd range) in
+    let s : Fraction = natural (widthOf range) in
+    let VH : Fraction = natural (calibrationOf high) in
+    let VL : Fraction = natural (calibrationOf low) in
+    let CH : Fraction = natural highSum /ℚ natural 32 in
+    let CL : Fraction = natural lowSum /ℚ natural 32 in
+    let m' : Fraction = g *ℚ (VH -ℚ VL) /ℚ (CH -ℚ CL) in
+    natural 65536 /ℚ s *ℚ (m' *ℚ (natural raw -ℚ CL) +ℚ VL *ℚ g -ℚ z)
 
--- denominator: s × (high sum - low sum)
-abbrev pub denominator : (range highSum lowSum : ℕ) → ℕ
-denominator range highSum lowSum = widthOf range * (highSum - lowSum)
-
--- top / bottom "to the nearest whole number, halves up": top / bottom + 1 / 2 rounded down
-abbrev pub nearest : ℤ → ℕ → ℤ
-nearest top bottom = roundedDown (top *ℤ pos 2 +ℤ pos bottom) (bottom * 2)
-
--- "this exact value to the nearest whole number, halves up, limited to 0..65535"
+-- "The answer is this exact value to the nearest whole number, halves up, limited to 0..65535"
 unfoldable pub correctedCount : (range gain high low highSum lowSum raw : ℕ) → ℕ
 correctedCount range gain high low highSum lowSum raw =
-    limited (nearest (numerator range gain high low highSum lowSum raw) (denominator range highSum lowSum))
+    limited (nearest (exactValue range gain high low highSum lowSum raw))
 
 -- the whole call
 unfoldable pub correctedAnswer : (range gain high low highSum lowSum raw : ℕ) → Answer

@@ -1,4 +1,6 @@
 pub mod Answers
+pub mod Fractions
 pub mod Code
 pub mod Correction
 pub mod Machine
+pub mod Sentences

@@ -9,18 +9,17 @@ use Rattle.analog.specs.Answers.{question, firstNo}
 use Rattle.pmc330_model.specs.Map.{Register, classOf, isMapped, isReadable}
 use Rattle.pmc330_model.specs.Words.{readWord, readBytes, heldWord, writtenWord, withWord, gainsWith, isRelease, isStop, isStart}
 use Rattle.pmc330_model.specs.Calls.{read, write}
-use Rattle.pmc330_model.specs.Questions.{isWidth, isAligned, resultingWord, writeQuestions, callQuestions}
+use Rattle.pmc330_model.specs.Questions.{isWidth, isAligned, resultingWord, writeQuestions, callQuestions, readQuestions}
 use Rattle.pmc330_model.specs.Board.{idleCycle, viewOf, questionsOf, afterRead, afterWrite, afterCall, valueOfCall, started}
 use Rattle.pmc330_model.specs.declared.Registers.{Registers}
 use Rattle.pmc330_model.specs.declared.Cycle.{Cycle}
 use Rattle.pmc330_model.specs.declared.Board.{Board}
-use Rattle.pmc330.specs.Asked.{readQuestionsOf, writeQuestionsOf}
 use Rattle.pmc330.specs.Classes.{registerOf}
 use Rattle.pmc330.specs.Widths.{powerOf}
 use Rattle.pmc330.proofs.WidthLaws.{width-is, power-is}
 
 -- where no question meets a no, the width is one of three
-met-width : (width offset : ℕ) (register : Register) → firstNo (readQuestionsOf width offset register) ≡ 0 → isWidth width ≡ true
+met-width : (width offset : ℕ) (register : Register) → firstNo (readQuestions width offset register) ≡ 0 → isWidth width ≡ true
 unfolding firstNo
 met-width width offset register none = go (isWidth width) none
   where
@@ -29,16 +28,16 @@ met-width width offset register none = go (isWidth width) none
     go false e = absurd (omega arith)
 
 module _ (b : Board) (width offset class : ℕ) (is : registerOf class ≡ classOf offset) where
-  pub read-number-is : firstNo (readQuestionsOf width offset (registerOf class)) ≡ firstNo (questionsOf b (read width offset))
+  pub read-number-is : firstNo (readQuestions width offset (registerOf class)) ≡ firstNo (questionsOf b (read width offset))
   unfolding callQuestions
-  read-number-is = ap (λ (r : Register). firstNo (readQuestionsOf width offset r)) is
+  read-number-is = ap (λ (r : Register). firstNo (readQuestions width offset r)) is
 
   pub read-board-is : afterRead (registerOf class) b ≡ afterCall b (read width offset)
   unfolding afterCall
   read-board-is = ap (λ (r : Register). afterRead r b) is
 
   pub read-value-is :
-      (word : ℕ) → word ≡ readWord (viewOf b) (registerOf class) → firstNo (readQuestionsOf width offset (registerOf class)) ≡ 0
+      (word : ℕ) → word ≡ readWord (viewOf b) (registerOf class) → firstNo (readQuestions width offset (registerOf class)) ≡ 0
       → word / 0x100 ^ (offset % 4) % powerOf width ≡ valueOfCall b (read width offset)
   unfolding valueOfCall
   read-value-is word e none =
@@ -52,13 +51,13 @@ module _ (b : Board) (width offset class : ℕ) (is : registerOf class ≡ class
     word-is = written ∙ ap (writtenWord width offset value) (held ∙ ap (heldWord (b .registers) (b .gains)) is)
 
     pub write-number-is :
-        firstNo (writeQuestionsOf (b .registers) (not (b .cycle .running)) width offset value (registerOf class) word resulting)
+        firstNo (writeQuestions (b .registers) (not (b .cycle .running)) width offset value (registerOf class) word resulting)
         ≡ firstNo (questionsOf b (write width offset value))
-    unfolding callQuestions writeQuestions
+    unfolding callQuestions
     write-number-is =
-        ap (λ (r : Registers). firstNo (writeQuestionsOf (b .registers) (not (b .cycle .running)) width offset value (registerOf class) word r))
+        ap (λ (r : Registers). firstNo (writeQuestions (b .registers) (not (b .cycle .running)) width offset value (registerOf class) word r))
         (result ∙ ap (λ (n : ℕ). withWord (registerOf class) n (b .registers)) (mod-eq-of-lt small))
-        ∙ ap₂ (λ (r : Register) (n : ℕ). firstNo (writeQuestionsOf (b .registers) (not (b .cycle .running)) width offset value r n (withWord r n (b .registers)))) is word-is
+        ∙ ap₂ (λ (r : Register) (n : ℕ). firstNo (writeQuestions (b .registers) (not (b .cycle .running)) width offset value r n (withWord r n (b .registers)))) is word-is
 
     pub write-board-is : afterWrite (registerOf class) word b ≡ afterCall b (write width offset value)
     unfolding afterCall

@@ -6,38 +6,17 @@ use mathlib.Core.Path.{_≡_, refl, sym, _∙_}
 use Prim.Native.Nat.{ℕ, zero, suc, _^_, _≤_, _<_}
 use native.Mathlib.Omega.{arith}
 use lib.Dec.{T, eqb, ltb, leb}
-use lib.IntN.{ℤ}
 use mir.Syntax.{w8}
 use mir.Val.{Fits}
 use borrow.Author.Tests.{ne-eqb}
 use Rattle.analog.specs.Answers.{Question, question, firstNo}
-use Rattle.pmc330_model.specs.Map.{Register, classOf, isMapped, isReadable, isWritable, ifInterrupt, ifControl, ifChannels, ifStartConvert, scanField}
-use Rattle.pmc330_model.specs.Words.{withWord, bitOf, isStart}
-use Rattle.pmc330_model.specs.Calls.{input}
-use Rattle.pmc330_model.specs.Questions.{isWidth, isAligned, isAllowed, hasUsedCodes, isValid, readQuestions, resultingWord, writeQuestions, callQuestions}
+use Rattle.pmc330_model.specs.Map.{Register, isMapped, isReadable, isWritable, ifInterrupt, ifControl, ifChannels, ifStartConvert, scanField}
+use Rattle.pmc330_model.specs.Words.{bitOf, isStart}
+use Rattle.pmc330_model.specs.Questions.{isWidth, isAligned, isAllowed, hasUsedCodes, isValid, accessQuestions}
 use Rattle.pmc330_model.specs.declared.Registers.{Registers}
-use Rattle.pmc330.specs.Asked.{accessQuestions, readQuestionsOf, writeQuestionsOf, inputQuestions}
 use Rattle.pmc330.specs.Classes.{registerOf}
 use Rattle.pmc330.specs.Widths.{powerOf}
 use Rattle.pmc330.proofs.WidthLaws.{width-is, power-is}
-
--- the lists are the model's
-pub read-questions : (width offset : ℕ) → readQuestions width offset ≡ readQuestionsOf width offset (classOf offset)
-read-questions width offset = refl
-
-pub write-questions :
-    (r : Registers) (gains : List ℕ) (idle : Bool) (width offset value : ℕ)
-    → writeQuestions r gains idle width offset value
-    ≡ writeQuestionsOf r idle width offset value (classOf offset) (resultingWord r gains width offset value)
-    (withWord (classOf offset) (resultingWord r gains width offset value) r)
-unfolding writeQuestions
-write-questions r gains idle width offset value = refl
-
-pub input-questions :
-    (r : Registers) (gains : List ℕ) (idle : Bool) (channel : ℕ) (microvolts : ℤ)
-    → callQuestions r gains idle (input channel microvolts) ≡ inputQuestions channel microvolts
-unfolding callQuestions
-input-questions r gains idle channel microvolts = refl
 
 pub width-least : (width : ℕ) → isWidth width ≡ true → 8 ≤ width
 width-least width e =

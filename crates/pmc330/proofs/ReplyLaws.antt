@@ -13,12 +13,11 @@ use Rattle.analog.specs.declared.Answer.{Answer}
 use Rattle.analog.specs.declared.Answer.the-variants.{Accepted, Refused}
 use Rattle.pmc330_model.specs.Map.{Register, unmapped, gain, mailbox, ifMailbox}
 use Rattle.pmc330_model.specs.Calls.{Call, advance}
-use Rattle.pmc330_model.specs.Questions.{callQuestions}
+use Rattle.pmc330_model.specs.Questions.{callQuestions, inputQuestions}
 use Rattle.pmc330_model.specs.Board.{questionsOf, afterCall, valueOfCall, boardCall}
 use Rattle.pmc330_model.specs.declared.Board.{Board}
 use Rattle.pmc330_model.specs.declared.Reply.{Reply}
 use Rattle.pmc330_model.proofs.Cases.{lt-or-le}
-use Rattle.pmc330.specs.Asked.{inputQuestions}
 use Rattle.pmc330.specs.Classes.{lowClasses, registerOf}
 
 module _ (b : Board) (call : Call) where

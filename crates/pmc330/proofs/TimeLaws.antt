@@ -15,7 +15,8 @@ use Rattle.pmc330_model.specs.declared.Registers.{Registers}
 use Rattle.pmc330_model.specs.declared.Cycle.{Cycle}
 use Rattle.pmc330_model.specs.declared.Board.{Board}
 use Rattle.pmc330_model.proofs.Cases.{same-or-not, and-right}
-use Rattle.pmc330_model.proofs.Jumps.{elapsedBy, jumped, Within, jump-board, jump-stores, idle-board, idle-stores, stores-most}
+use Rattle.pmc330_model.specs.Jumps.{elapsedBy, jumped}
+use Rattle.pmc330_model.proofs.Jumps.{Within, jump-board, jump-stores, idle-board, idle-stores, stores-most}
 use Rattle.pmc330_model.proofs.Theorems.{advanced-add, stores-add}
 use Rattle.pmc330.specs.Steps.{boardOf, begunScan, storedScan, storedCodes, storedUnread, stepTo, SameFlags, SameMoving}
 use Rattle.pmc330.specs.declared.cycle.Scan.{Scan}

@@ -1,4 +1,3 @@
 pub mod Classes
 pub mod Widths
 pub mod Steps
-pub mod Asked

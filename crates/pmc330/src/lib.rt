@@ -212,7 +212,7 @@ pub fn trigger(b: Board) -> Reply
 {
     Reply {
         board: starts::triggered_board(b),
-        answer: Answer::Accepted(0),
+        answer: Answer::Accepted(0), // a trigger is asked nothing
     }
 }
 
@@ -223,7 +223,7 @@ pub fn reset(b: Board) -> Reply
     let inputs = b.inputs;
     Reply {
         board: cleared(b.range, inputs),
-        answer: Answer::Accepted(0),
+        answer: Answer::Accepted(0), // a reset is asked nothing
     }
 }
 

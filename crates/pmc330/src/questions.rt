@@ -4,9 +4,8 @@ ghost use Prim.Native.Nat.{_≤_};
 ghost use Rattle.analog.specs.Answers.{firstNo};
 ghost use Rattle.pmc330_model.specs.Map.{isMapped, isReadable, isWritable};
 ghost use Rattle.pmc330_model.specs.Words.{bitOf, isStart};
-ghost use Rattle.pmc330_model.specs.Questions.{isWidth, isAligned, isAllowed, hasUsedCodes, isValid, hasChannels, hasInterval, startQuestions};
+ghost use Rattle.pmc330_model.specs.Questions.{isWidth, isAligned, isAllowed, hasUsedCodes, isValid, hasChannels, hasInterval, startQuestions, accessQuestions, readQuestions, wordQuestions, writeQuestions, isInput, inputQuestions};
 ghost use Rattle.pmc330.specs.Classes.{registerOf};
-ghost use Rattle.pmc330.specs.Asked.{accessQuestions, readQuestionsOf, wordQuestions, writeQuestionsOf, isInput, inputQuestions};
 use super::fields;
 use super::widths;
 use pmc330_model::Registers;
@@ -185,7 +184,7 @@ pub(crate) fn access_number(width: u32, offset: u32, class: u8) -> u8
 }
 
 pub(crate) fn read_number(width: u32, offset: u32, class: u8) -> u8
-    ensures { λ n. ⌜ n ≡ firstNo (readQuestionsOf width offset (registerOf class)) ⌝ }
+    ensures { λ n. ⌜ n ≡ firstNo (readQuestions width offset (registerOf class)) ⌝ }
 {
     let access = access_number(width, offset, class);
     if access != 0 {
@@ -242,7 +241,7 @@ pub(crate) fn write_number(
     word: u32,
     resulting: Registers,
 ) -> u8
-    ensures { λ n. ⌜ n ≡ firstNo (writeQuestionsOf r idle width offset value (registerOf class) word resulting) ⌝ }
+    ensures { λ n. ⌜ n ≡ firstNo (writeQuestions r idle width offset value (registerOf class) word resulting) ⌝ }
 {
     let access = access_number(width, offset, class);
     if access != 0 {

@@ -4,7 +4,7 @@ ghost use mathlib.Core.Path.{_≡_};
 ghost use Prim.Native.Nat.{ℕ, _+_, _-_, _*_, _/_, _≤_, _<_, min};
 ghost use lib.Dec.{eqb};
 ghost use Rattle.pmc330_model.specs.Schedule.{isTimed};
-ghost use Rattle.pmc330_model.proofs.Jumps.{elapsedBy, jumped};
+ghost use Rattle.pmc330_model.specs.Jumps.{elapsedBy, jumped};
 ghost use Rattle.pmc330.specs.Steps.{boardOf, begunScan, stepTo, RunOf, SameFlags, SameMoving};
 use crate::cycle;
 use crate::cycle::Scan;

@@ -14,28 +14,18 @@ use Rattle.pmc330_model.specs.Words.{withWord, readWord, readBytes, isSt
 use Rattle.pmc330_model.specs.Calls.{Call, read, write, input, advance, trigger, reset}
 use Rattle.pmc330_model.specs.Board.{afterRead, afterCall, valueOfCall, questionsOf, boardCall, clearedBoard, viewOf, storesIn}
 use Rattle.pmc330_model.specs.Logbook.{Event, wasReset, Running, idle, since, isIdle, Logbook, readEvent, happens, logbookQuestions, logged, loggedValue, loggedAnswer, logbookView, storesMade, ticksPass}
-use Rattle.pmc330_model.specs.Questions.{isWidth, isAligned, isAllowed, isValid, hasChannels, hasInterval, startQuestions, resultingWord, writeQuestions, callQuestions}
+use Rattle.pmc330_model.specs.Questions.{isWidth, isAligned, isAllowed, isValid, hasChannels, hasInterval, startQuestions, resultingWord, callQuestions}
 use Rattle.pmc330_model.specs.declared.Registers.{Registers}
 use Rattle.pmc330_model.specs.declared.Cycle.{Cycle}
 use Rattle.pmc330_model.specs.declared.Board.{Board}
 use Rattle.pmc330_model.proofs.Agreement.{bookOf, Limits, Timed, Armed, CycleAgrees, Agrees, Related, Moved}
 use Rattle.pmc330_model.proofs.Memory.{memory-read, memory-reset}
+use Rattle.pmc330_model.proofs.QuestionLaws.{first-met, rest-met}
 use Rattle.pmc330_model.proofs.Reading.{words-agree}
 use Rattle.pmc330_model.proofs.Related.{unchanged, both}
 use Rattle.pmc330_model.proofs.Ticks.{ticks-agree}
 use Rattle.pmc330_model.proofs.Triggers.{trigger-agrees}
 use Rattle.pmc330_model.proofs.Writes.{write-agrees}
-
--- where no question meets a no, each is met
-first-met : (n : ℕ) (met : Bool) (later : List Question) → firstNo (question (suc n) met ∷ later) ≡ 0 → met ≡ true
-unfolding firstNo
-first-met n true later e = refl
-first-met n false later e = absurd (omega arith)
-
-rest-met : (n : ℕ) (met : Bool) (later : List Question) → firstNo (question (suc n) met ∷ later) ≡ 0 → firstNo later ≡ 0
-unfolding firstNo
-rest-met n true later e = e
-rest-met n false later e = absurd (omega arith)
 
 -- the board is idle when the logbook is
 idle-same : (r : Registers) (tick : ℕ) (cycle : Running) (c : Cycle) → CycleAgrees r tick cycle c → not (c .running) ≡ isIdle cycle
@@ -96,8 +86,8 @@ module _ (b : Board) (tick : ℕ) (cycle : Running) (events : List Event) (agree
           first-met 9 _ _ (rest-met 8 _ _ second),
         )
 
-    written : firstNo (writeQuestions (b .registers) (b .gains) (isIdle cycle) width offset value) ≡ 0 → Related (happens (bookOf b tick cycle events) (write width offset value)) (afterCall b (write width offset value))
-    unfolding writeQuestions happens afterCall
+    written : firstNo (callQuestions (b .registers) (b .gains) (isIdle cycle) (write width offset value)) ≡ 0 → Related (happens (bookOf b tick cycle events) (write width offset value)) (afterCall b (write width offset value))
+    unfolding callQuestions happens afterCall
     written e =
         let five : firstNo after5 ≡ 0 = rest-met 4 _ _ (rest-met 3 _ _ (rest-met 2 _ _ (rest-met 1 _ _ (rest-met 0 _ _ e)))) in
         let six : firstNo after6 ≡ 0 = rest-met 5 _ _ five in
@@ -135,7 +125,7 @@ module _ (b : Board) (tick : ℕ) (cycle : Running) (events : List Event) (agree
             };
       }
 
-  questions-same : (call : Call) → questionsOf b call ≡ logbookQuestions (bookOf b tick cycle events) call
+  pub questions-same : (call : Call) → questionsOf b call ≡ logbookQuestions (bookOf b tick cycle events) call
   questions-same call =
       ap (λ (free : Bool). callQuestions (b .registers) (b .gains) free call) (idle-same (b .registers) tick cycle (b .cycle) (agrees .running))
 

@@ -9,28 +9,11 @@ use lib.Dec.{eqb}
 use borrow.Author.Tests.{eq-eqb, ne-eqb}
 use Rattle.pmc330_model.specs.Schedule.{isTimed}
 use Rattle.pmc330_model.specs.Board.{withCycle, elapsed, isStoreDue, isBeginningDue, storedIfDue, begunIfDue, ticked, advanced, storesIn}
+use Rattle.pmc330_model.specs.Jumps.{elapsedBy, jumped}
 use Rattle.pmc330_model.specs.declared.Cycle.{Cycle}
 use Rattle.pmc330_model.specs.declared.Board.{Board}
 use Rattle.pmc330_model.proofs.Cases.{same-or-not}
 use Rattle.pmc330_model.proofs.Theorems.{advanced-add, stores-add}
-
--- n ticks pass in the cycle
-abbrev pub elapsedBy : (n : ℕ) → Cycle → Cycle
-elapsedBy n c =
-    record {
-      running = c .running;
-      lead = c .lead - n;
-      lag = c .lag - n;
-      waiting = c .waiting;
-      slot = c .slot;
-      ends = c .ends;
-      index = c .index;
-      odd = c .odd;
-    }
-
--- n ticks pass, and in the last of them what is then due happens
-abbrev pub jumped : (n : ℕ) → Board → Board
-jumped n b = begunIfDue (eqb (b .cycle .lead) n) (storedIfDue (eqb (b .cycle .lag) n) (withCycle b (elapsedBy n (b .cycle))))
 
 -- n ticks reach at most the end of a countdown, if one runs
 abbrev pub Within : (n count : ℕ) → Type 0

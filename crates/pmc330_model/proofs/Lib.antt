@@ -1,4 +1,5 @@
 pub mod Cases
+pub mod QuestionLaws
 pub mod Schedule
 pub mod Agreement
 pub mod Memory
@@ -8,6 +9,7 @@ pub mod Stores
 pub mod TickBegins
 pub mod Ticks
 pub mod Reading
+pub mod Scheduled
 pub mod Related
 pub mod Starts
 pub mod Triggers

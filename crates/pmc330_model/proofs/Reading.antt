@@ -1,5 +1,5 @@
 -- What is read: a joined word's digits, the words of the board and of its logbook, and sentence 3 of the two.
-use mathlib.Core.Bool.{Bool, true, false, cond}
+use mathlib.Core.Bool.{Bool, true, false, cond, _&&_}
 use mathlib.Core.List.{List, [], _∷_}
 use mathlib.Core.Logic.{⊎-elim}
 use mathlib.Core.Path.{_≡_, refl, sym, ap, _∙_}
@@ -11,13 +11,15 @@ use lib.Pow.{pow-add}
 use lib.Dec.{eqb, ltb, leb}
 use lib.ListN.{getD}
 use borrow.Author.Tests.{eq-eqb, lt-ltb, le-ltb, le-leb, lt-leb, ltb-true}
-use Rattle.analog.specs.Answers.{firstNo, answered, valueOf}
+use Rattle.analog.specs.Answers.{firstNo, answered, valueOf, isAccepted}
+use Rattle.analog.specs.declared.Answer.{Answer}
+use Rattle.analog.specs.declared.Answer.the-variants.{Accepted}
 use Rattle.pmc330_model.specs.Map.{Register, unmapped, interrupt, control, prescaler, timer, channels, startConvert, newData, missedData, gain, mailbox, lowWords, wordAt, classOf, isMapped, isReadable}
 use Rattle.pmc330_model.specs.Words.{joined, toBit, bitOf, heldWord, readWord}
 use Rattle.pmc330_model.specs.Questions.{callQuestions}
 use Rattle.pmc330_model.specs.Board.{viewOf, valueOfCall, boardCall, readCall}
 use Rattle.pmc330_model.specs.Logbook.{Event, Running, lastStore, storesSince, interrupted, logbookView}
-use Rattle.pmc330_model.specs.Sentences.{Sentence3}
+use Rattle.pmc330_model.specs.Sentences.{ReadsBit, Sentence3}
 use Rattle.pmc330_model.specs.declared.Board.{Board}
 use Rattle.pmc330_model.proofs.Cases.{lt-or-le}
 use Rattle.pmc330_model.proofs.Agreement.{bookOf, Agrees}
@@ -163,16 +165,16 @@ class-is n offset e =
     let word : offset / 4 ≡ n = omega arith in
     rw (first, word)
 
--- a 16-bit read there meets all questions and gives the whole word
-value-read :
+-- a 16-bit read there is accepted, and gives the whole word
+word-read :
     (b : Board) (n offset : ℕ) (register : Register) → offset ≡ 4 * n → ReadAt n register
     → readWord (viewOf b) register < 65536
-    → valueOf (readCall b 16 offset .answer) ≡ readWord (viewOf b) register
+    → readCall b 16 offset .answer ≡ Accepted (readWord (viewOf b) register)
 unfolding boardCall callQuestions answered firstNo valueOfCall
-value-read b n offset register e place small =
+word-read b n offset register e place small =
     let first : offset % 4 ≡ 0 = omega arith in
     rw (lt-ltb offset 256 (omega arith), eq-eqb (offset % 2) 0 (omega arith), class-is n offset e, place .is, place .mapped, place .readable, first)
-    (omega arith)
+    (ap Accepted (omega arith))
 
 -- ---- bits
 
@@ -252,9 +254,9 @@ module _ (b : Board) (tick : ℕ) (cycle : Running) (events : List Event) where
     -- a 16-bit read of the board gives the logbook's word
     logged-read :
         (n offset : ℕ) (register : Register) → offset ≡ 4 * n → ReadAt n register → logged register < 65536
-        → valueOf (readCall b 16 offset .answer) ≡ logged register
+        → readCall b 16 offset .answer ≡ Accepted (logged register)
     logged-read n offset register e place small =
-        value-read b n offset register e place (rw same small) ∙ same
+        word-read b n offset register e place (rw same small) ∙ ap Accepted same
       where
         same : readWord (viewOf b) register ≡ logged register
         same = rw (class-is n offset e, place .is) at (words-agree offset)
@@ -263,23 +265,27 @@ module _ (b : Board) (tick : ℕ) (cycle : Running) (events : List Event) where
     flag-read :
         (k first s : ℕ) (register : Register) → ReadAt (first + s / 16) register
         → logged register ≡ flagWord (reaches k) (s / 16)
-        → bitOf (s % 16) (valueOf (readCall b 16 (4 * first + 4 * (s / 16)) .answer)) ≡ reaches k s
+        → ReadsBit b (4 * first + 4 * (s / 16)) (s % 16) (reaches k s)
     flag-read k first s register place word =
-        ap (bitOf (s % 16))
-        (logged-read (first + s / 16) (4 * first + 4 * (s / 16)) register (omega arith) place (rw word (flag-small (reaches k) (s / 16)))
-        ∙ word)
-        ∙ flag-bit (reaches k) s
+        record { accepted = ap isAccepted given; shown = ap (λ (a : Answer). bitOf (s % 16) (valueOf a)) given ∙ flag-bit (reaches k) s }
+      where
+        given : readCall b 16 (4 * first + 4 * (s / 16)) .answer ≡ Accepted (flagWord (reaches k) (s / 16))
+        given =
+            logged-read (first + s / 16) (4 * first + 4 * (s / 16)) register (omega arith) place (rw word (flag-small (reaches k) (s / 16)))
+            ∙ ap Accepted word
 
-    pending-read : bitOf 1 (valueOf (readCall b 16 0 .answer)) ≡ interrupted events
+    pending-read : ReadsBit b 0x00 1 (interrupted events)
     unfolding readWord heldWord
     pending-read =
         let enable : Bool = b .registers .enable in
-        ap (bitOf 1)
-        (logged-read 0 0 interrupt refl interrupt-at (omega (arith, bit-small enable, bit-small (interrupted events))))
-        ∙ pending-bit enable (interrupted events)
+        let given = logged-read 0 0 interrupt refl interrupt-at (omega (arith, bit-small enable, bit-small (interrupted events))) in
+        record {
+          accepted = ap isAccepted given;
+          shown = ap (λ (a : Answer). bitOf 1 (valueOf a)) given ∙ pending-bit enable (interrupted events);
+        }
 
     -- a code is read whole because it fits 16 bits
-    mailbox-read : (s : ℕ) → s < 32 → valueOf (readCall b 16 (0x80 + 4 * s) .answer) ≡ lastStore s events
+    mailbox-read : (s : ℕ) → s < 32 → readCall b 16 (0x80 + 4 * s) .answer ≡ Accepted (lastStore s events)
     unfolding readWord
     mailbox-read s h =
         logged-read (0x20 + s) (0x80 + 4 * s) (mailbox s) (omega arith) (mailbox-at s h)
@@ -293,4 +299,5 @@ module _ (b : Board) (tick : ℕ) (cycle : Running) (events : List Event) where
           newData = λ s h. flag-read 1 5 s (newData (s / 16)) (newData-at (s / 16) (omega arith)) refl;
           missedData = λ s h. flag-read 2 7 s (missedData (s / 16)) (missedData-at (s / 16) (omega arith)) refl;
           pending = pending-read;
+          line = ap (λ (t : Bool). b .registers .enable && t) (agrees .memory .interrupt);
         }

@@ -1,51 +1,44 @@
 -- The sentences of the data sheet, proved. Their statements are in specs/Sentences.antt.
-use mathlib.Core.Bool.{Bool, true, false, cond}
+use mathlib.Core.Bool.{Bool, true, false, not, cond, false≢true}
 use mathlib.Core.List.{List, [], _∷_}
-use mathlib.Core.Logic.{_≢_, ⊎-elim}
+use mathlib.Core.Logic.{⊎-elim}
 use mathlib.Core.Path.{_≡_, refl, sym, ap, ap₂, subst, _∙_}
 use Prim.Native.Nat.{ℕ, zero, suc, _+_, _≤_, _<_}
 use native.Mathlib.Nat.{add-zero, zero-add, add-assoc, suc-add}
 use native.Mathlib.Omega.{arith}
 use lib.Dec.{eqb, leb}
-use borrow.Author.Tests.{eq-eqb, ne-eqb, le-leb, lt-leb}
-use Rattle.analog.specs.Answers.{Question, question, firstNo, answered, numberOf, valueOf}
+use borrow.Author.Tests.{ne-eqb, le-leb, lt-leb}
+use Rattle.analog.specs.Answers.{Question, firstNo, answered, valueOf, isAccepted}
+use Rattle.analog.specs.declared.Answer.the-variants.{Accepted}
+use Rattle.analog.proofs.AnswerLaws.{numbered, some-first, answered-by}
 use Rattle.pmc330_model.specs.Calls.{Call, advance}
-use Rattle.pmc330_model.specs.Board.{newBoard, ticked, advanced, isStoreDue, storesIn, questionsOf, afterCall, valueOfCall, boardCall, newCall, advanceCall, boardFrom, answersFrom}
-use Rattle.pmc330_model.specs.Logbook.{Logbook, wasReset, idle, newLogbook, logged, loggedAnswer, loggedFrom, loggedAnswersFrom}
+use Rattle.pmc330_model.specs.Board.{newBoard, ticked, advanced, isStoreDue, storesIn, questionsOf, afterCall, valueOfCall, boardCall, newCall, advanceCall, boardFrom, answersFrom, boardAfter}
+use Rattle.pmc330_model.specs.Logbook.{Running, since, Logbook, wasReset, idle, newLogbook, logged, loggedAnswer, loggedFrom, loggedAnswersFrom, logbookOf}
 use Rattle.pmc330_model.specs.Questions.{callQuestions}
-use Rattle.pmc330_model.specs.Sentences.{Sentence3, EveryCall1, EveryNew1, EveryAnswer, EveryList3, EveryPair, EveryAdvances, sumOf, boardAfterAdvances, valueOfAdvances}
+use Rattle.pmc330_model.specs.Sentences.{Sentence1, Sentence3, EveryCall1, AfterList1, EveryList1, EveryNew1, EveryAnswer, EveryList3, Scheduled, EverySchedule, EveryTick, EveryPair, EveryAdvances, sumOf, boardAfterAdvances, valueOfAdvances}
 use Rattle.pmc330_model.specs.declared.Board.{Board}
-use Rattle.pmc330_model.proofs.Agreement.{bookOf, Agrees, Related}
-use Rattle.pmc330_model.proofs.CallsAgree.{answer-same, call-agrees}
-use Rattle.pmc330_model.proofs.Cases.{same-or-not, lt-or-le}
+use Rattle.pmc330_model.proofs.Agreement.{bookOf, Startable, CycleAgrees, Agrees, Related}
+use Rattle.pmc330_model.proofs.CallsAgree.{questions-same, answer-same, call-agrees}
+use Rattle.pmc330_model.proofs.Cases.{lt-or-le}
 use Rattle.pmc330_model.proofs.Memory.{memory-reset}
+use Rattle.pmc330_model.proofs.QuestionLaws.{questions-numbered}
 use Rattle.pmc330_model.proofs.Reading.{sentence3-of}
+use Rattle.pmc330_model.proofs.Scheduled.{scheduled, ticks-counted}
 
 -- ---- sentence 1
-
-answered-number : (questions : List Question) (value : ℕ) → numberOf (answered questions value) ≡ firstNo questions
-unfolding answered
-answered-number questions value =
-    ⊎-elim
-    (λ (e : firstNo questions ≡ 0). rw (eq-eqb (firstNo questions) 0 e) (sym e))
-    (λ (n : firstNo questions ≡ 0 → ⊥). rw (ne-eqb (firstNo questions) 0 n))
-    (same-or-not (firstNo questions) 0)
-
-refused-value : (questions : List Question) (value : ℕ) → firstNo questions ≢ 0 → valueOf (answered questions value) ≡ 0
-unfolding answered
-refused-value questions value n = rw (ne-eqb (firstNo questions) 0 n)
 
 pub sentence1 : EveryCall1
 unfolding boardCall
 sentence1 b call =
     record {
-      number = answered-number (questionsOf b call) (valueOfCall b call);
-      value = λ refused. refused-value (questionsOf b call) (valueOfCall b call) (no-question refused);
-      board = λ refused. ap (λ (t : Bool). cond t (afterCall b call) b) (ne-eqb (firstNo (questionsOf b call)) 0 (no-question refused));
+      answer = answered-by (questionsOf b call) (valueOfCall b call) numbers;
+      board = λ no.
+          ap (λ (t : Bool). cond t (afterCall b call) b)
+          (ne-eqb (firstNo (questionsOf b call)) 0 (λ none. omega (arith, some-first (questionsOf b call) numbers no)));
     }
   where
-    no-question : numberOf (answered (questionsOf b call) (valueOfCall b call)) ≢ 0 → firstNo (questionsOf b call) ≢ 0
-    no-question refused e = refused (answered-number (questionsOf b call) (valueOfCall b call) ∙ e)
+    numbers : numbered (questionsOf b call) ≡ true
+    numbers = questions-numbered (b .registers) (b .gains) (not (b .cycle .running)) call
 
 pub newBoards : EveryNew1
 unfolding answered firstNo
@@ -53,16 +46,11 @@ newBoards range =
     record {
       accepted = λ h. rw (le-leb range 3 h);
       made = λ h. ap (λ (t : Bool). newBoard (cond t range 0)) (le-leb range 3 h);
-      number = λ h. rw (lt-leb range 3 h);
-      value = no-value (leb range 3);
+      refused = λ h. rw (lt-leb range 3 h);
       board = λ h. ap (λ (t : Bool). newBoard (cond t range 0)) (lt-leb range 3 h);
     }
-  where
-    no-value : (met : Bool) → valueOf (answered (question 14 met ∷ []) 0) ≡ 0
-    no-value true = refl
-    no-value false = refl
 
--- ---- sentence 3
+-- ---- sentence 3, and sentence 1 after a list
 
 -- a new board and its logbook
 opening : (range : ℕ) → Related (newLogbook range) (newBoard range)
@@ -91,11 +79,40 @@ unfolding loggedFrom boardFrom
 related-calls [] l b h = h
 related-calls (call ∷ calls) l b h = related-calls calls (logged l call) (boardCall b call .board) (related-call l b h call)
 
+-- the board and the logbook that a list ends with
+after : (range : ℕ) (calls : List Call) → Related (logbookOf range calls) (boardAfter range calls)
+after range calls = related-calls calls (newLogbook range) (newBoard range) (opening range)
+
 pub sentence3 : EveryList3
 sentence3 range valid calls =
-    let h = related-calls calls (newLogbook range) (newBoard range) (opening range) in
-    subst (Sentence3 (boardFrom (newBoard range) calls)) (sym (h .same))
-    (sentence3-of (boardFrom (newBoard range) calls) (h .tick) (h .cycle) (h .events) (h .agrees))
+    let h = after range calls in
+    subst (Sentence3 (boardAfter range calls)) (sym (h .same))
+    (sentence3-of (boardAfter range calls) (h .tick) (h .cycle) (h .events) (h .agrees))
+
+pub sentence1After : EveryList1
+sentence1After range valid calls next =
+    let h = after range calls in
+    subst (λ (l : Logbook). AfterList1 (boardAfter range calls) l next) (sym (h .same))
+    (subst (λ (questions : List Question). Sentence1 questions (boardAfter range calls) next)
+    (questions-same (boardAfter range calls) (h .tick) (h .cycle) (h .events) (h .agrees) next)
+    (sentence1 (boardAfter range calls) next))
+
+-- a running cycle met questions 9 and 10
+running-startable :
+    (b : Board) (tick : ℕ) (cycle : Running) → CycleAgrees (b .registers) tick cycle (b .cycle)
+    → (T : ℕ) (triggers : List ℕ) → cycle ≡ since T triggers → Startable (b .registers)
+running-startable b tick cycle h T triggers running =
+    subst (λ (c : Running). CycleAgrees (b .registers) tick c (b .cycle)) running h .startable
+
+pub schedule : EverySchedule
+schedule range valid calls =
+    let h = after range calls in
+    subst Scheduled (sym (h .same))
+    (scheduled (bookOf (boardAfter range calls) (h .tick) (h .cycle) (h .events))
+    (running-startable (boardAfter range calls) (h .tick) (h .cycle) (h .agrees .running)))
+
+pub ticksCounted : EveryTick
+ticksCounted = ticks-counted
 
 answers-agree : (calls : List Call) (l : Logbook) (b : Board) → Related l b → answersFrom b calls ≡ loggedAnswersFrom l calls
 unfolding answersFrom loggedAnswersFrom
@@ -122,19 +139,36 @@ stores-add (suc n) k b =
     rw (suc-add n k, add-assoc (cond (isStoreDue b) 1 0) (storesIn n (ticked b)) (storesIn k (advanced n (ticked b))))
     (ap (λ (m : ℕ). cond (isStoreDue b) 1 0 + m) (stores-add n k (ticked b)))
 
--- an advance that is accepted
+-- an advance is accepted exactly up to the most ticks
+accepted-most : (b : Board) (n : ℕ) → isAccepted (advanceCall b n .answer) ≡ true → n ≤ 16_777_216
+unfolding boardCall callQuestions firstNo answered
+accepted-most b n e =
+    ⊎-elim
+    (λ (more : 16_777_216 < n). absurd (false≢true (rw (lt-leb n 16_777_216 more) at e)))
+    (λ (most : n ≤ 16_777_216). most)
+    (lt-or-le 16_777_216 n)
+
 module _ (b : Board) (n : ℕ) (most : n ≤ 16_777_216) where
   accepted-board : advanceCall b n .board ≡ advanced n b
   unfolding boardCall callQuestions firstNo afterCall
   accepted-board = rw (le-leb n 16_777_216 most)
 
-  accepted-value : valueOf (advanceCall b n .answer) ≡ storesIn n b
+  accepted-answer : advanceCall b n .answer ≡ Accepted (storesIn n b)
   unfolding boardCall callQuestions firstNo answered valueOfCall
-  accepted-value = rw (le-leb n 16_777_216 most)
+  accepted-answer = rw (le-leb n 16_777_216 most)
+
+  accepted-is : isAccepted (advanceCall b n .answer) ≡ true
+  accepted-is = ap isAccepted accepted-answer
+
+  accepted-value : valueOf (advanceCall b n .answer) ≡ storesIn n b
+  accepted-value = ap valueOf accepted-answer
 
 pub advanceJoins : EveryPair
-advanceJoins b n k most =
+advanceJoins b n k accepted =
+    let most : n + k ≤ 16_777_216 = accepted-most b (n + k) accepted in
     record {
+      first = accepted-is b n (omega arith);
+      second = accepted-is (advanceCall b n .board) k (omega arith);
       board =
           accepted-board (advanceCall b n .board) k (omega arith)
           ∙ ap (advanced k) (accepted-board b n (omega arith))
@@ -149,15 +183,17 @@ advanceJoins b n k most =
 
 pub advancesJoin : EveryAdvances
 unfolding sumOf boardAfterAdvances valueOfAdvances advanced storesIn
-advancesJoin [] b most =
+advancesJoin [] b accepted =
     record {
+      accepted = tt;
       board = sym (accepted-board b 0 (omega arith));
       value = sym (accepted-value b 0 (omega arith));
     }
-advancesJoin (n ∷ ns) b most =
-    let rest = advancesJoin ns (advanceCall b n .board) (omega arith) in
-    let joined = advanceJoins b n (sumOf ns) most in
+advancesJoin (n ∷ ns) b accepted =
+    let joined = advanceJoins b n (sumOf ns) accepted in
+    let rest = advancesJoin ns (advanceCall b n .board) (joined .second) in
     record {
+      accepted = (joined .first, rest .accepted);
       board = rest .board ∙ joined .board;
       value = ap (λ (m : ℕ). valueOf (advanceCall b n .answer) + m) (rest .value) ∙ joined .value;
     }

@@ -4,6 +4,7 @@ pub mod Schedule
 pub mod Calls
 pub mod Questions
 pub mod Board
+pub mod Jumps
 pub mod Logbook
 pub mod Sentences
 pub mod Bench

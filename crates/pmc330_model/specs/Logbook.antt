@@ -142,7 +142,7 @@ storesInTime k l =
     (stores k l .events)
 
 -- the conversion k of the schedule with T + its beginning + delay = tick, if any.
--- Question 10 sees to it that conversion k begins at T + k or later, so that the numbers up to the tick are enough to search
+-- Conversion k begins at T + k or later, so that the numbers up to the tick are enough to search: `InCycle` in Sentences states it
 unfoldable pub dueAfter : (delay : ℕ) → Registers → (tick : ℕ) → Running → Due
 dueAfter delay r tick idle = none
 dueAfter delay r tick (since T triggers) =

@@ -2,9 +2,9 @@
 -- They are asked of the registers, the gains and whether the board is idle, so that the board and the logbook can both answer them.
 use Prim.Native.Nat.{ℕ, _/_, _%_, _^_}
 use mathlib.Core.Bool.{Bool, true, false, cond, not, _&&_, _||_}
-use mathlib.Core.List.{List, [], _∷_}
+use mathlib.Core.List.{List, [], _∷_, _++_}
 use lib.Dec.{eqb, ltb, leb}
-use lib.IntN.{pos, negℤ}
+use lib.IntN.{ℤ, pos, negℤ}
 use lib.Signed.{leZ}
 use Rattle.analog.specs.Answers.{Question, question}
 use Rattle.pmc330_model.specs.Map.{Register, classOf, isMapped, isReadable, isWritable, ifInterrupt, ifControl, ifChannels, ifStartConvert, triggerField, acquisitionField, scanField, isTimerEnabled, interruptField}
@@ -64,41 +64,50 @@ startQuestions r =
     ∷ question 10 (hasInterval r)
     ∷ []
 
--- the questions of a read: 4 is about written values, and 6 and 7 are met by every read
-abbrev pub readQuestions : (width offset : ℕ) → List Question
-readQuestions width offset =
+-- 1, 2 and 3: of every access, with the register that its offset belongs to
+abbrev pub accessQuestions : (width offset : ℕ) → Register → List Question
+accessQuestions width offset register =
     question 1 (isWidth width)
     ∷ question 2 (isAligned width offset)
-    ∷ question 3 (isMapped (classOf offset))
-    ∷ question 5 (isReadable (classOf offset))
+    ∷ question 3 (isMapped register)
     ∷ []
+
+-- a read: 4 is about written values, and 6 and 7 are met by every read
+abbrev pub readQuestions : (width offset : ℕ) → Register → List Question
+readQuestions width offset register = accessQuestions width offset register ++ (question 5 (isReadable register) ∷ [])
+
+-- 5 and on: of the word that a write results in, and the registers that would hold it
+abbrev pub wordQuestions : Registers → (idle : Bool) → Register → (word : ℕ) → (resulting : Registers) → List Question
+wordQuestions r idle register word resulting =
+    question 5 (isWritable register)
+    ∷ question 6 (isAllowed idle register word resulting)
+    ∷ question 7 (isValid register resulting)
+    ∷ cond (isStart register word) (startQuestions r) []
+
+abbrev pub writeQuestions :
+    Registers → (idle : Bool) → (width offset value : ℕ) → Register → (word : ℕ) → (resulting : Registers) → List Question
+writeQuestions r idle width offset value register word resulting =
+    accessQuestions width offset register
+    ++ (question 4 (ltb value (2 ^ width)) ∷ wordQuestions r idle register word resulting)
 
 -- the word that a write results in, of the registers as they are
 abbrev pub resultingWord : Registers → (gains : List ℕ) → (width offset value : ℕ) → ℕ
 resultingWord r gains width offset value = writtenWord width offset value (heldWord r gains (classOf offset))
 
-unfoldable pub writeQuestions : Registers → (gains : List ℕ) → (idle : Bool) → (width offset value : ℕ) → List Question
-writeQuestions r gains idle width offset value =
-    let register : Register = classOf offset in
-    let word : ℕ = resultingWord r gains width offset value in
-    let resulting : Registers = withWord register word r in
-    question 1 (isWidth width)
-    ∷ question 2 (isAligned width offset)
-    ∷ question 3 (isMapped register)
-    ∷ question 4 (ltb value (2 ^ width))
-    ∷ question 5 (isWritable register)
-    ∷ question 6 (isAllowed idle register word resulting)
-    ∷ question 7 (isValid register resulting)
-    ∷ cond (isStart register word) (startQuestions r) []
-
 -- "Other calls": 11, 12 and 13
+abbrev pub isInput : (microvolts : ℤ) → Bool
+isInput microvolts = leZ (negℤ (pos 35_000_000)) microvolts && leZ microvolts (pos 55_000_000)
+
+abbrev pub inputQuestions : (channel : ℕ) → (microvolts : ℤ) → List Question
+inputQuestions channel microvolts = question 11 (leb channel 31) ∷ question 12 (isInput microvolts) ∷ []
+
+-- the questions of each call, in order; a trigger and a reset are asked none
 unfoldable pub callQuestions : Registers → (gains : List ℕ) → (idle : Bool) → Call → List Question
-callQuestions r gains idle (read width offset) = readQuestions width offset
-callQuestions r gains idle (write width offset value) = writeQuestions r gains idle width offset value
-callQuestions r gains idle (input channel microvolts) =
-    question 11 (leb channel 31)
-    ∷ question 12 (leZ (negℤ (pos 35_000_000)) microvolts && leZ microvolts (pos 55_000_000))
-    ∷ []
+callQuestions r gains idle (read width offset) = readQuestions width offset (classOf offset)
+callQuestions r gains idle (write width offset value) =
+    let word : ℕ = resultingWord r gains width offset value in
+    writeQuestions r idle width offset value (classOf offset) word (withWord (classOf offset) word r)
+callQuestions r gains idle (input channel microvolts) = inputQuestions channel microvolts
 callQuestions r gains idle (advance ticks) = question 13 (leb ticks 16_777_216) ∷ []
 callQuestions r gains idle trigger = []
 callQuestions r gains idle reset = []

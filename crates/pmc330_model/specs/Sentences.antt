@@ -1,71 +1,197 @@
--- The sentences of the data sheet. Each `Every..` is proved in proofs/Theorems.antt: `sentence1`, `newBoards`, `answersAgree`,
--- `sentence3`, `advanceJoins` and `advancesJoin`.
-use Prim.Native.Nat.{ℕ, _+_, _*_, _/_, _%_, _≤_, _<_}
+-- The sentences of the data sheet. Each `Every..` is proved in proofs/Theorems.antt.
+use Prim.Native.Nat.{ℕ, suc, _+_, _-_, _*_, _/_, _%_, _≤_, _<_}
+use mathlib.Core.Bool.{Bool, true, false, not, _&&_}
 use mathlib.Core.List.{List, [], _∷_}
 use mathlib.Core.Path.{_≡_}
-use mathlib.Core.Logic.{_≢_}
 use lib.Dec.{leb}
-use Rattle.analog.specs.Answers.{firstNo, numberOf, valueOf}
+use lib.ListN.{length}
+use Rattle.analog.specs.Answers.{Question, allMet, valueOf, isAccepted}
+use Rattle.analog.specs.Sentences.{AnsweredBy}
+use Rattle.analog.specs.declared.Answer.the-variants.{Accepted, Refused}
+use Rattle.pmc330_model.specs.Map.{triggerField}
 use Rattle.pmc330_model.specs.Words.{bitOf}
-use Rattle.pmc330_model.specs.Calls.{Call}
-use Rattle.pmc330_model.specs.Board.{questionsOf, boardCall, newCall, newBoard, readCall, advanceCall, boardAfter, answersOf}
-use Rattle.pmc330_model.specs.Logbook.{Logbook, lastStore, storesSince, interrupted, logbookOf, logbookAnswers}
+use Rattle.pmc330_model.specs.Schedule.{isTimed, isTriggerOnly, channelOf, slotOf, endsPass, codeAt, formattedBy, isInterrupting, beginsAt, isScheduled, conversion}
+use Rattle.pmc330_model.specs.Calls.{Call, read, write, input, advance, trigger, reset}
+use Rattle.pmc330_model.specs.Questions.{callQuestions}
+use Rattle.pmc330_model.specs.Board.{boardCall, newCall, newBoard, readCall, advanceCall, requestLine, boardAfter, answersOf}
+use Rattle.pmc330_model.specs.Logbook.{Event, wasReset, cycleStart, release, wasRead, store, idle, since, isIdle, Logbook, lastStore, storesSince, interrupted, dueAfter, tickPasses, ticksPass, logged, logbookOf, logbookAnswers}
+use Rattle.pmc330_model.specs.declared.Registers.{Registers}
 use Rattle.pmc330_model.specs.declared.Board.{Board}
 
--- Sentence 1, of a call on a board: its number is that of the first no, 0 if there is none;
--- where it is not 0, the value is 0 and the board is the one handed in
-pub record Sentence1 (b : Board) (call : Call) : Type 0 where
-  pub number : numberOf (boardCall b call .answer) ≡ firstNo (questionsOf b call)
-  pub value : numberOf (boardCall b call .answer) ≢ 0 → valueOf (boardCall b call .answer) ≡ 0
-  pub board : numberOf (boardCall b call .answer) ≢ 0 → boardCall b call .board ≡ b
+-- ---- Sentence 1
 
+-- A call on a board, by the questions that it is asked: refused or accepted, with its number and value, as `AnsweredBy` says;
+-- refused, "the board handed back equals it"
+pub record Sentence1 (questions : List Question) (b : Board) (call : Call) : Type 0 where
+  pub answer : AnsweredBy questions (boardCall b call .answer)
+  pub board : allMet questions ≡ false → boardCall b call .board ≡ b
+
+-- on every board: 01's questions, asked of its registers, its gains and whether a cycle runs
 abbrev pub EveryCall1 : Type 0
-EveryCall1 = (b : Board) (call : Call) → Sentence1 b call
+EveryCall1 =
+    (b : Board) (call : Call) → Sentence1 (callQuestions (b .registers) (b .gains) (not (b .cycle .running)) call) b call
 
--- and of a new board, where none is handed in: refused by 14 with a new board of range 0, else a new board of that range
+-- after every list of calls: 01's questions, asked of what the logbook of the list holds, so that "idle" is 01's
+abbrev pub AfterList1 : (b : Board) → Logbook → Call → Type 0
+AfterList1 b l call = Sentence1 (callQuestions (l .registers) (l .gains) (isIdle (l .cycle)) call) b call
+
+abbrev pub EveryList1 : Type 0
+EveryList1 =
+    (range : ℕ) → range < 4 → (calls : List Call) (next : Call) → AfterList1 (boardAfter range calls) (logbookOf range calls) next
+
+-- a new board, where none is handed in: refused by 14 with a new board of range 0, else a new board of that range
 pub record NewBoard1 (range : ℕ) : Type 0 where
-  pub accepted : range ≤ 3 → numberOf (newCall range .answer) ≡ 0
+  pub accepted : range ≤ 3 → newCall range .answer ≡ Accepted 0
   pub made : range ≤ 3 → newCall range .board ≡ newBoard range
-  pub number : 3 < range → numberOf (newCall range .answer) ≡ 14
+  pub refused : 3 < range → newCall range .answer ≡ Refused 14
   pub board : 3 < range → newCall range .board ≡ newBoard 0
-  pub value : valueOf (newCall range .answer) ≡ 0
 
 abbrev pub EveryNew1 : Type 0
 EveryNew1 = (range : ℕ) → NewBoard1 range
 
--- Sentence 2: number and value of every call of a list are those that the logbook defines, so that what a driver sees
--- is 01's alone
+-- ---- Sentence 2
+
+-- number and value of every call of a list are those that the logbook defines, so that what a driver sees is 01's alone
 abbrev pub EveryAnswer : Type 0
 EveryAnswer = (range : ℕ) → range < 4 → (calls : List Call) → answersOf range calls ≡ logbookAnswers range calls
 
--- Sentence 3, of a board and a logbook: what a 16-bit read of the board gives is what the logbook's events say.
--- The clauses are the buyer's: "Each mailbox holds the code of the last store made there since the last reset, 0 if none."
+-- ---- Sentence 3
+
+-- a 16-bit read is accepted, and this is a bit of what it gives
+pub record ReadsBit (b : Board) (offset place : ℕ) (bit : Bool) : Type 0 where
+  pub accepted : isAccepted (readCall b 16 offset .answer) ≡ true
+  pub shown : bitOf place (valueOf (readCall b 16 offset .answer)) ≡ bit
+
+-- What a 16-bit read of the board gives is what the logbook's events say. The clauses are the buyer's:
+-- "Each mailbox holds the code of the last store made there since the last reset, 0 if none."
 pub record Sentence3 (b : Board) (l : Logbook) : Type 0 where
-  pub mailbox : (s : ℕ) → s < 32 → valueOf (readCall b 16 (0x80 + 4 * s) .answer) ≡ lastStore s (l .events)
+  pub mailbox : (s : ℕ) → s < 32 → readCall b 16 (0x80 + 4 * s) .answer ≡ Accepted (lastStore s (l .events))
   -- "A New Data bit is set exactly when at least one store in that mailbox, and a Missed Data bit exactly when at least two,
   -- followed the last read of that mailbox, cycle start or reset."
-  pub newData :
-      (s : ℕ) → s < 32
-      → bitOf (s % 16) (valueOf (readCall b 16 (0x14 + 4 * (s / 16)) .answer)) ≡ leb 1 (storesSince s (l .events))
-  pub missedData :
-      (s : ℕ) → s < 32
-      → bitOf (s % 16) (valueOf (readCall b 16 (0x1c + 4 * (s / 16)) .answer)) ≡ leb 2 (storesSince s (l .events))
+  pub newData : (s : ℕ) → s < 32 → ReadsBit b (0x14 + 4 * (s / 16)) (s % 16) (leb 1 (storesSince s (l .events)))
+  pub missedData : (s : ℕ) → s < 32 → ReadsBit b (0x1c + 4 * (s / 16)) (s % 16) (leb 2 (storesSince s (l .events)))
   -- "An interrupt is pending exactly when an interrupting store followed the last release or reset."
-  pub pending : bitOf 1 (valueOf (readCall b 16 0 .answer)) ≡ interrupted (l .events)
+  pub pending : ReadsBit b 0x00 1 (interrupted (l .events))
+  -- 01: "The request line is enable and pending", enable as it was written
+  pub line : requestLine b ≡ (l .registers .enable && interrupted (l .events))
 
 -- one claim over the whole list, of any length and with any arguments
 abbrev pub EveryList3 : Type 0
 EveryList3 = (range : ℕ) → range < 4 → (calls : List Call) → Sentence3 (boardAfter range calls) (logbookOf range calls)
 
--- Point D: two advances end where one of their sum does, and their stores add up
+-- "The stores are those of 01's schedule and no others." Of a logbook with a cycle of a timed mode, running since T:
+pub record InCycle (l : Logbook) (T : ℕ) (triggers : List ℕ) : Type 0 where
+  -- what is due at a tick, after a delay, is conversion k exactly when k is scheduled and T + its beginning + the delay is that tick
+  pub found :
+      (delay tick k : ℕ) → isScheduled (l .registers) k ≡ true → T + beginsAt (l .registers) k + delay ≡ tick
+      → dueAfter delay (l .registers) tick (since T triggers) ≡ conversion k
+  pub real :
+      (delay tick k : ℕ) → dueAfter delay (l .registers) tick (since T triggers) ≡ conversion k
+      → (isScheduled (l .registers) k ≡ true) × (T + beginsAt (l .registers) k + delay ≡ tick)
+  -- no two conversions begin together, so that at most one is due
+  pub one : (i k : ℕ) → beginsAt (l .registers) i ≡ beginsAt (l .registers) k → i ≡ k
+  -- so the next tick makes the store of the conversion that began 64 ticks before it, if there is one, and else none
+  pub stored :
+      (k : ℕ) → isScheduled (l .registers) k ≡ true → T + beginsAt (l .registers) k + 64 ≡ suc (l .tick)
+      → tickPasses l .events
+      ≡ (store (slotOf (l .registers) k) (formattedBy (l .registers) (l .taken)) (isInterrupting (l .registers) (endsPass (l .registers) k))
+      ∷ l .events)
+  pub unstored :
+      ((k : ℕ) → isScheduled (l .registers) k ≡ true → T + beginsAt (l .registers) k + 64 ≡ suc (l .tick) → ⊥)
+      → tickPasses l .events ≡ l .events
+  -- and it takes the code of the conversion that begins at it, if there is one, and else none
+  pub begun :
+      (k : ℕ) → isScheduled (l .registers) k ≡ true → T + beginsAt (l .registers) k ≡ suc (l .tick)
+      → tickPasses l .taken ≡ codeAt (l .range) (l .registers) (l .gains) (l .inputs) (channelOf (l .registers) k)
+  pub unbegun :
+      ((k : ℕ) → isScheduled (l .registers) k ≡ true → T + beginsAt (l .registers) k ≡ suc (l .tick) → ⊥)
+      → tickPasses l .taken ≡ l .taken
+
+-- the calls that may make a store: an advance, and a trigger in external trigger only
+abbrev pub mayStore : Registers → Call → Bool
+mayStore r (read width offset) = false
+mayStore r (write width offset value) = false
+mayStore r (input channel microvolts) = false
+mayStore r (advance ticks) = true
+mayStore r trigger = isTriggerOnly r
+mayStore r reset = false
+
+-- the stores among the events
+unfoldable pub storesAmong : List Event → List Event
+storesAmong [] = []
+storesAmong (wasReset ∷ earlier) = storesAmong earlier
+storesAmong (cycleStart ∷ earlier) = storesAmong earlier
+storesAmong (release ∷ earlier) = storesAmong earlier
+storesAmong (wasRead slot ∷ earlier) = storesAmong earlier
+storesAmong (store slot code interrupts ∷ earlier) = store slot code interrupts ∷ storesAmong earlier
+
+-- Of a logbook: a cycle has its T from the call that starts it and keeps it, and a timed one is as above; without one no tick
+-- makes a store
+pub record Scheduled (l : Logbook) : Type 0 where
+  pub started :
+      (call : Call) (T : ℕ) (triggers : List ℕ) → l .cycle ≡ idle → logged l call .cycle ≡ since T triggers
+      → (T ≡ l .tick) × (triggers ≡ [])
+  pub kept :
+      (call : Call) (T later : ℕ) (triggers more : List ℕ) → l .cycle ≡ since T triggers → logged l call .cycle ≡ since later more
+      → later ≡ T
+  pub timed : (T : ℕ) (triggers : List ℕ) → l .cycle ≡ since T triggers → isTimed (l .registers) ≡ true → InCycle l T triggers
+  pub untimed : isTimed (l .registers) ≡ false → tickPasses l .events ≡ l .events
+  pub whileIdle : l .cycle ≡ idle → tickPasses l .events ≡ l .events
+  -- external trigger only: a trigger that is taken and not the first of its cycle stores the conversion before; no other does
+  pub taken :
+      (T last : ℕ) (earlier : List ℕ) → l .cycle ≡ since T (last ∷ earlier) → isTriggerOnly (l .registers) ≡ true
+      → triggerField (l .registers .control) ≡ 1 → 64 ≤ l .tick - last
+      → logged l trigger .events
+      ≡ (store (slotOf (l .registers) (length earlier)) (formattedBy (l .registers) (l .taken))
+      (isInterrupting (l .registers) (endsPass (l .registers) (length earlier)))
+      ∷ l .events)
+  pub untaken :
+      isTriggerOnly (l .registers) ≡ true
+      → ((T last : ℕ) (earlier : List ℕ) → l .cycle ≡ since T (last ∷ earlier) → triggerField (l .registers .control) ≡ 1 → 64 ≤ l .tick - last → ⊥)
+      → logged l trigger .events ≡ l .events
+  -- no other call makes a store but an advance
+  pub otherCalls : (call : Call) → mayStore (l .registers) call ≡ false → storesAmong (logged l call .events) ≡ storesAmong (l .events)
+
+abbrev pub EverySchedule : Type 0
+EverySchedule = (range : ℕ) → range < 4 → (calls : List Call) → Scheduled (logbookOf range calls)
+
+-- a call that leaves the tick as it is where it is accepted: an advance moves it, and a reset begins at 0 again
+abbrev pub isTimeless : Call → Bool
+isTimeless (read width offset) = true
+isTimeless (write width offset value) = true
+isTimeless (input channel microvolts) = true
+isTimeless (advance ticks) = false
+isTimeless trigger = true
+isTimeless reset = false
+
+-- "An accepted advance of n counts as n ticks, a refused call as none." These are the ticks one by one, with their stores
+pub record TicksCounted (l : Logbook) : Type 0 where
+  pub passed :
+      (n : ℕ) → allMet (callQuestions (l .registers) (l .gains) (isIdle (l .cycle)) (advance n)) ≡ true
+      → logged l (advance n) ≡ ticksPass n l
+  pub advanced :
+      (n : ℕ) → allMet (callQuestions (l .registers) (l .gains) (isIdle (l .cycle)) (advance n)) ≡ true
+      → logged l (advance n) .tick ≡ l .tick + n
+  pub refused :
+      (call : Call) → allMet (callQuestions (l .registers) (l .gains) (isIdle (l .cycle)) call) ≡ false → logged l call ≡ l
+  pub others : (call : Call) → isTimeless call ≡ true → logged l call .tick ≡ l .tick
+
+abbrev pub EveryTick : Type 0
+EveryTick = (l : Logbook) → TicksCounted l
+
+-- ---- Point D
+
+-- two advances whose sum is accepted: each is accepted, they end where the sum does, and their stores add up
 pub record Joined (b : Board) (n k : ℕ) : Type 0 where
+  pub first : isAccepted (advanceCall b n .answer) ≡ true
+  pub second : isAccepted (advanceCall (advanceCall b n .board) k .answer) ≡ true
   pub board : advanceCall (advanceCall b n .board) k .board ≡ advanceCall b (n + k) .board
   pub value :
       valueOf (advanceCall b n .answer) + valueOf (advanceCall (advanceCall b n .board) k .answer)
       ≡ valueOf (advanceCall b (n + k) .answer)
 
 abbrev pub EveryPair : Type 0
-EveryPair = (b : Board) (n k : ℕ) → n + k ≤ 16_777_216 → Joined b n k
+EveryPair = (b : Board) (n k : ℕ) → isAccepted (advanceCall b (n + k) .answer) ≡ true → Joined b n k
 
 -- and any list of advances whose sum is accepted
 unfoldable pub sumOf : List ℕ → ℕ
@@ -80,9 +206,14 @@ unfoldable pub valueOfAdvances : Board → List ℕ → ℕ
 valueOfAdvances b [] = 0
 valueOfAdvances b (n ∷ ns) = valueOf (advanceCall b n .answer) + valueOfAdvances (advanceCall b n .board) ns
 
+abbrev pub AllAccepted : Board → List ℕ → Type 0
+AllAccepted b [] = Unit
+AllAccepted b (n ∷ ns) = (isAccepted (advanceCall b n .answer) ≡ true) × AllAccepted (advanceCall b n .board) ns
+
 pub record AllJoined (b : Board) (ns : List ℕ) : Type 0 where
+  pub accepted : AllAccepted b ns
   pub board : boardAfterAdvances b ns ≡ advanceCall b (sumOf ns) .board
   pub value : valueOfAdvances b ns ≡ valueOf (advanceCall b (sumOf ns) .answer)
 
 abbrev pub EveryAdvances : Type 0
-EveryAdvances = (ns : List ℕ) (b : Board) → sumOf ns ≤ 16_777_216 → AllJoined b ns
+EveryAdvances = (ns : List ℕ) (b : Board) → isAccepted (advanceCall b (sumOf ns) .answer) ≡ true → AllJoined b ns

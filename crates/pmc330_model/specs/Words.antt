@@ -92,7 +92,7 @@ withWord register word r =
     (λ slot. r)
     r
 
--- the gains after the first count channels from one on take their two bits each
+-- the gains after `count` channels, from `channel` on, took two bits each of the word
 unfoldable pub gainsFrom : (channel word count : ℕ) → List ℕ → List ℕ
 gainsFrom channel word zero gains = gains
 gainsFrom channel word (suc n) gains = set (gainsFrom channel word n gains) (channel + n) (word / 4 ^ n % 4)

@@ -11,11 +11,13 @@ use lib.Dec.{eqb, ltb, leb}
 use lib.ListN.{length, getD, take, drop, length-drop}
 use lib.Seq.{getD-drop, drop-drop, drop-cons}
 use borrow.Author.Tests.{lt-ltb, le-ltb, le-leb, lt-leb, eq-eqb, ne-eqb, eqb-true, leb-true}
+use Rattle.analog.specs.Answers.{firstNo}
 use Rattle.pmc330_model.specs.Calls.{Call}
 use Rattle.pmc330_model.proofs.Cases.{lt-or-le, and-left, and-right}
 use Rattle.trace.specs.Grammar.{lengthIn, isCallIn, lengthOf, isCallTag, lowFirst, callOf}
 use Rattle.trace.specs.Fields.{tagOf, sizeOf, bodyOf, afterField, isWhole, sameBytes, Fields, damaged, whole, inFront, isCallField, fieldsIn, fieldsOf}
-use Rattle.trace.specs.Machine.{counted}
+use Rattle.trace.specs.Play.{callsIn, fieldsQuestion}
+use Rattle.trace.specs.Machine.{counted, checkedNumber, checkedCalls}
 use Rattle.trace.specs.declared.fields.Checked.the-variants.{Calls}
 
 -- ---- the grammar's table
@@ -93,7 +95,7 @@ unfolding fieldsIn
 one-turn bytes some turns = rw (ne-eqb (length bytes) 0 (λ e. omega arith))
 
 -- turns beyond the length make no difference
-enough : (n m : ℕ) (bytes : List ℕ) → length bytes < n → length bytes < m → fieldsIn n bytes ≡ fieldsIn m bytes
+pub enough : (n m : ℕ) (bytes : List ℕ) → length bytes < n → length bytes < m → fieldsIn n bytes ≡ fieldsIn m bytes
 enough zero m bytes h k = absurd (omega arith)
 enough (suc n) zero bytes h k = absurd (omega arith)
 enough (suc n) (suc m) bytes h k =
@@ -208,6 +210,16 @@ pub count-turn :
 count-turn trace at size n some e field =
     ap (counted n) (a-call trace at size some e field)
     ∙ counted-front n (callOf (getD trace at 0) (take size (drop (at + 3) trace))) (fieldsOf (drop (at + 3 + size) trace))
+
+-- the number and the value of the check
+pub number-counted : (fields : Fields) → checkedNumber (counted 0 fields) ≡ firstNo (fieldsQuestion fields ∷ [])
+unfolding firstNo
+number-counted damaged = refl
+number-counted (whole calls) = refl
+
+pub calls-counted : (fields : Fields) → checkedCalls (counted 0 fields) ≡ length (callsIn fields)
+calls-counted damaged = refl
+calls-counted (whole calls) = omega arith
 
 -- the heading has eight bytes
 pub heading-long : (trace : List ℕ) → isWhole trace ≡ true → tagOf trace ≡ 0 → 8 ≤ length trace

@@ -17,9 +17,8 @@ use Rattle.pmc330_model.specs.declared.Reply.{Reply}
 use Rattle.pmc330_model.proofs.Cases.{and-left, and-right}
 use Rattle.trace.specs.Grammar.{lengthOf, callOf}
 use Rattle.trace.specs.Fields.{isWhole, isHeading, isCallField, rangeOf, tagOf, sameBytes, fixedBytes, Fields, damaged, whole, inFront, fieldsOf, laterFields}
-use Rattle.trace.specs.Play.{isUndamaged, callsIn, callsOf, traceNumber, answerBytes, bytesOf, inBuffer, callsAnswered, playedResult, playedBuffer}
-use Rattle.trace.specs.Machine.{counted, countOf, Playable}
-use Rattle.trace.specs.declared.fields.Checked.the-variants.{Damaged, Calls}
+use Rattle.trace.specs.Play.{isUndamaged, fieldsQuestion, callsIn, callsOf, traceNumber, answerBytes, bytesOf, inBuffer, callsAnswered, playedResult, playedBuffer}
+use Rattle.trace.specs.Machine.{Playable}
 use Rattle.trace.proofs.FieldLaws.{whole-at, no-call, a-call, fields-end, heading-long}
 
 -- ---- the next call
@@ -259,13 +258,15 @@ accepted trace buffer e =
 
 -- ---- the check and the heading
 
-pub found-damaged : (fields : Fields) → Damaged ≡ counted 0 fields → fields ≡ damaged
+pub found-damaged : (fields : Fields) → 19 ≡ firstNo (fieldsQuestion fields ∷ []) → fields ≡ damaged
+unfolding firstNo
 found-damaged damaged e = refl
-found-damaged (whole calls) e = let z : _≡_ {A = ℕ} 0 1 = cc in absurd (omega arith)
+found-damaged (whole calls) e = absurd (omega arith)
 
-pub found-calls : (fields : Fields) (n : ℕ) → Calls n ≡ counted 0 fields → (fields ≡ whole (callsIn fields)) × (n ≡ length (callsIn fields))
-found-calls damaged n e = let z : _≡_ {A = ℕ} 0 1 = cc in absurd (omega arith)
-found-calls (whole calls) n e = (refl, ap countOf e ∙ omega arith)
+pub found-whole : (fields : Fields) → 0 ≡ firstNo (fieldsQuestion fields ∷ []) → fields ≡ whole (callsIn fields)
+unfolding firstNo
+found-whole damaged e = absurd (omega arith)
+found-whole (whole calls) e = refl
 
 pub heading-range : (trace : List ℕ) → isHeading trace ≡ true → rangeOf trace ≤ 3
 unfolding isHeading

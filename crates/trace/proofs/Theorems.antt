@@ -1,41 +1,57 @@
 -- The sentences on traces, proved. Their statements are in specs/Sentences.antt.
-use mathlib.Core.Bool.{Bool, true, false}
-use mathlib.Core.List.{List, _∷_}
+use mathlib.Core.Bool.{true, false}
+use mathlib.Core.List.{List}
 use mathlib.Core.Path.{_≡_, refl, sym, ap, _∙_}
-use Prim.Native.Nat.{ℕ}
+use Prim.Native.Nat.{ℕ, _+_, _*_}
 use native.Mathlib.Omega.{arith}
 use lib.Dec.{eqb, leb}
 use borrow.Author.Tests.{ne-eqb}
 use lib.ListN.{length}
-use Rattle.analog.specs.Answers.{Question, question, firstNo}
+use Rattle.analog.specs.Answers.{firstNo, allMet}
 use Rattle.analog.specs.declared.Answer.{Answer}
-use Rattle.pmc330_model.proofs.Cases.{and-right}
+use Rattle.analog.proofs.AnswerLaws.{none-first, some-first}
+use Rattle.pmc330_model.proofs.Cases.{and-left, and-right}
 use Rattle.pmc330_model.proofs.Theorems.{answersAgree}
-use Rattle.trace.specs.Fields.{isHeading, rangeOf}
-use Rattle.trace.specs.Play.{traceNumber, callsOf, callsAnswered, playedBuffer, inBuffer}
-use Rattle.trace.specs.Sentences.{EveryRefusedTrace, EveryTrace}
+use Rattle.trace.specs.Fields.{isHeading, rangeOf, isCallField, fieldsOf}
+use Rattle.trace.specs.Play.{traceQuestions, traceNumber, callsOf, callsAnswered, playedBuffer, inBuffer}
+use Rattle.trace.specs.Sentences.{EveryRefusedTrace, EveryAcceptedTrace, EveryWalk}
+use Rattle.trace.proofs.FieldLaws.{enough, fields-end, fields-step}
 use Rattle.trace.proofs.PlayLaws.{accepted, heading-range}
 
 pub tracesRefused : EveryRefusedTrace
-unfolding callsAnswered playedBuffer
-tracesRefused trace buffer some =
-    let refused : eqb (traceNumber trace (length buffer)) 0 ≡ false = ne-eqb _ _ some in
+unfolding traceNumber callsAnswered playedBuffer
+tracesRefused trace buffer unmet =
+    let refused : eqb (firstNo (traceQuestions trace (length buffer))) 0 ≡ false =
+    ne-eqb (firstNo (traceQuestions trace (length buffer))) 0 (λ none. omega (arith, some-first (traceQuestions trace (length buffer)) refl unmet)) in
     record {
       result = rw refused (omega arith);
       unchanged = rw refused;
     }
 
-first-met : (met : Bool) (later : List Question) → firstNo (question 18 met ∷ later) ≡ 0 → met ≡ true
-unfolding firstNo
-first-met true later e = refl
-first-met false later e = absurd (omega arith)
+-- question 18 is the first of the three
+accepted-heading : (trace : List ℕ) (room : ℕ) → allMet (traceQuestions trace room) ≡ true → isHeading trace ≡ true
+unfolding allMet
+accepted-heading trace room met = and-right (leb (length trace) 16_777_216) (isHeading trace) (and-left _ _ met)
 
-accepted-heading : (trace : List ℕ) (room : ℕ) → traceNumber trace room ≡ 0 → isHeading trace ≡ true
+pub tracesAccepted : EveryAcceptedTrace
 unfolding traceNumber
-accepted-heading trace room e = and-right (leb (length trace) 16_777_216) (isHeading trace) (first-met _ _ e)
+tracesAccepted trace buffer met =
+    let none = none-first (traceQuestions trace (length buffer)) met in
+    let played = accepted trace buffer none in
+    let valid = heading-range trace (accepted-heading trace (length buffer) met) in
+    record {
+      result = sym (played .number);
+      answers =
+          sym (played .bytes)
+          ∙ ap (λ (answers : List Answer). inBuffer answers buffer) (answersAgree (rangeOf trace) (omega (arith, valid)) (callsOf trace));
+    }
 
-pub traceAgrees : EveryTrace
-traceAgrees trace buffer e =
-    sym (accepted trace buffer e .bytes)
-    ∙ ap (λ (answers : List Answer). inBuffer answers buffer)
-    (answersAgree (rangeOf trace) (omega (arith, heading-range trace (accepted-heading trace (length buffer) e))) (callsOf trace))
+pub walksEnough : EveryWalk
+unfolding fieldsOf
+walksEnough bytes =
+    record {
+      turns = λ n more. enough n _ bytes more (omega arith);
+      ended = fields-end bytes;
+      next = λ some field. fields-step bytes some ∙ rw field;
+      other = λ some broken. fields-step bytes some ∙ rw broken;
+    }

@@ -62,7 +62,7 @@ fieldsIn (suc turns) bytes =
     cond (eqb (length bytes) 0) (whole [])
     (cond (isCallField bytes) (inFront (callOf (tagOf bytes) (bodyOf bytes)) (fieldsIn turns (afterField bytes))) damaged)
 
--- a whole field has three bytes at least, so that these turns are enough
+-- these turns are enough, by `WalkEnough` in Sentences
 unfoldable pub fieldsOf : List ℕ → Fields
 fieldsOf bytes = fieldsIn (suc (length bytes)) bytes
 

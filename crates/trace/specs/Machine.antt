@@ -13,9 +13,14 @@ abbrev pub counted : (n : ℕ) → Fields → Checked
 counted n damaged = Damaged
 counted n (whole calls) = Calls (n + length calls)
 
-abbrev pub countOf : Checked → ℕ
-countOf Damaged = 0
-countOf (Calls n) = n
+-- the number of a check, and its value: how many calls it found
+abbrev pub checkedNumber : Checked → ℕ
+checkedNumber Damaged = 19
+checkedNumber (Calls n) = 0
+
+abbrev pub checkedCalls : Checked → ℕ
+checkedCalls Damaged = 0
+checkedCalls (Calls n) = n
 
 -- a checked trace and a buffer with room for its answers
 pub record Playable (trace : List ℕ) (room : ℕ) : Type 0 where

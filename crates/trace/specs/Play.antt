@@ -22,13 +22,16 @@ callsIn (whole calls) = calls
 abbrev pub callsOf : (trace : List ℕ) → List Call
 callsOf trace = callsIn (laterFields trace)
 
--- 18. "Has the trace at most 16,777,216 bytes, and is its first field that heading, with range 0 to 3?"
 -- 19. "Is every later field whole, with a call's tag and its length?"
+abbrev pub fieldsQuestion : Fields → Question
+fieldsQuestion fields = question 19 (isUndamaged fields)
+
+-- 18. "Has the trace at most 16,777,216 bytes, and is its first field that heading, with range 0 to 3?"
 -- 20. "Has the answer buffer at least 5 bytes per call?"
 abbrev pub traceQuestions : (trace : List ℕ) (room : ℕ) → List Question
 traceQuestions trace room =
     question 18 (leb (length trace) 16_777_216 && isHeading trace)
-    ∷ question 19 (isUndamaged (laterFields trace))
+    ∷ fieldsQuestion (laterFields trace)
     ∷ question 20 (leb (5 * length (callsOf trace)) room)
     ∷ []
 

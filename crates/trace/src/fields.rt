@@ -1,10 +1,13 @@
 // The fields of a trace: the heading, and the check of the later ones.
 ghost use mathlib.Core.Path.{_≡_};
 ghost use Prim.Native.Nat.{_<_, _≤_};
+ghost use mathlib.Core.List.{[], _∷_};
 ghost use lib.ListN.{length, getD, drop};
+ghost use Rattle.analog.specs.Answers.{firstNo};
 ghost use Rattle.trace.specs.Grammar.{lengthOf, isCallTag, lowFirst};
 ghost use Rattle.trace.specs.Fields.{isWhole, isHeading, isCallField, sameBytes, laterFields};
-ghost use Rattle.trace.specs.Machine.{counted, countOf};
+ghost use Rattle.trace.specs.Play.{callsOf, fieldsQuestion};
+ghost use Rattle.trace.specs.Machine.{checkedNumber, checkedCalls};
 
 // What the check of the fields after the heading finds.
 pub enum Checked {
@@ -121,8 +124,9 @@ pub(crate) fn is_heading(trace: &[u8]) -> bool
 // The check of the later fields: no board is asked.
 pub(crate) fn check_fields(trace: &[u8]) -> Checked
     requires { ⌜ 8 ≤ length (now trace) ⌝ }
-    ensures found { λ r. ⌜ r ≡ counted 0 (laterFields (now (trace .entry))) ⌝ }
-    ensures most { λ r. ⌜ countOf r ≤ length (now (trace .entry)) ⌝ }
+    ensures number { λ r. ⌜ checkedNumber r ≡ firstNo (fieldsQuestion (laterFields (now (trace .entry))) ∷ []) ⌝ }
+    ensures calls { λ r. ⌜ checkedCalls r ≡ length (callsOf (now (trace .entry))) ⌝ }
+    ensures most { λ r. ⌜ checkedCalls r ≤ length (now (trace .entry)) ⌝ }
 {
     let mut at: usize = 8;
     let mut n: usize = 0;

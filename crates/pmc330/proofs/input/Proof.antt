@@ -8,12 +8,11 @@ use lib.IntN.{ℤ}
 use lib.ListN.{set}
 use Rattle.analog.specs.Answers.{firstNo}
 use Rattle.pmc330_model.specs.declared.Board.{Board}
-use Rattle.pmc330.specs.Asked.{inputQuestions}
 use mathlib.Core.Path.{_≡_, refl, sym, ap, ap₂, _∙_}
 use Rattle.pmc330.proofs.ReplyLaws.{refused-reply, accepted-reply, input-channel}
 use mir.Facts.{toZ-ofZ}
 use Rattle.pmc330_model.specs.Calls.{input}
-use Rattle.pmc330_model.specs.Questions.{callQuestions}
+use Rattle.pmc330_model.specs.Questions.{callQuestions, inputQuestions}
 use Rattle.pmc330_model.specs.Board.{afterCall, valueOfCall}
 use Rattle.pmc330.proofs.input.Statement.{statement}
 use Rattle.pmc330.proofs.input.Tie as tie

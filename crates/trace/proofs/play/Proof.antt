@@ -11,8 +11,8 @@ use Rattle.pmc330_model.specs.Board.{answersFrom}
 use Rattle.pmc330_model.specs.declared.Board.{Board}
 use Rattle.trace.specs.Fields.{isHeading, whole, laterFields}
 use Rattle.trace.specs.Play.{callsOf, inBuffer}
-use Rattle.trace.specs.Machine.{countOf}
-use Rattle.trace.proofs.PlayLaws.{number-long, number-18, number-19, number-20, number-0, refused, accepted, found-damaged, found-calls, heading-length, opened-board}
+use Rattle.trace.specs.Machine.{checkedNumber, checkedCalls}
+use Rattle.trace.proofs.PlayLaws.{number-long, number-18, number-19, number-20, number-0, refused, accepted, found-damaged, found-whole, heading-length, opened-board}
 use Rattle.trace.proofs.play.Statement.{statement}
 use Rattle.trace.proofs.play.Tie as tie
 
@@ -45,7 +45,7 @@ returns-3 : tie.Need-returns-3
 returns-3 c =
     let a = c .before .before .before .before .before .before .before .before .args in
     let heading = sym (c .before .before .before .before .is-heading .ensures) ∙ not-false _ (c .before .before .before .if2 .left) in
-    let broken = found-damaged (laterFields (a .trace .now)) (sym (c .enum-told .given .1) ∙ c .before .before .check-fields .ensures .0) in
+    let broken = found-damaged (laterFields (a .trace .now)) (ap checkedNumber (sym (c .enum-told .given .1)) ∙ c .before .before .check-fields .ensures .0) in
     let p = refused (a .trace .now) (a .answers .now) 19 (number-19 (a .trace .now) (length (a .answers .now)) (c .before .before .before .before .before .if1 .left) heading broken) (λ e. omega arith) in
     (p .number, p .bytes)
 
@@ -64,10 +64,13 @@ module _ (k : tie.After-known-told) where
   heading = sym (k .before .before .before .before .before .is-heading .ensures) ∙ not-false _ (k .before .before .before .before .if2 .left)
 
   found : (laterFields trace ≡ whole (callsOf trace)) × (n ≡ length (callsOf trace))
-  found = found-calls (laterFields trace) n (sym (k .before .checked .given .1) ∙ k .before .before .before .check-fields .ensures .0)
+  found = (
+    found-whole (laterFields trace) (ap checkedNumber (sym (k .before .checked .given .1)) ∙ k .before .before .before .check-fields .ensures .0),
+    ap checkedCalls (sym (k .before .checked .given .1)) ∙ k .before .before .before .check-fields .ensures .1 .0,
+  )
 
   most : n ≤ 16_777_216
-  most = omega (arith, short, ap countOf (k .before .checked .given .1), k .before .before .before .check-fields .ensures .1)
+  most = omega (arith, short, ap checkedCalls (k .before .checked .given .1), k .before .before .before .check-fields .ensures .1 .1)
 
 mul-if3 : tie.Need-mul-if3
 mul-if3 c = omega (arith, most c)

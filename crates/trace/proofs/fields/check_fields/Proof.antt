@@ -8,9 +8,9 @@ use lib.ListN.{length, length-drop, drop}
 use borrow.Author.Tests.{not-true, not-false}
 use Rattle.pmc330_model.proofs.Cases.{and-left}
 use Rattle.trace.specs.Fields.{fieldsOf, laterFields, isCallField, isWhole}
-use Rattle.trace.specs.Machine.{counted}
+use Rattle.trace.specs.Machine.{counted, checkedNumber, checkedCalls}
 use Rattle.trace.specs.declared.fields.Checked.the-variants.{Calls}
-use Rattle.trace.proofs.FieldLaws.{whole-at, no-call, fields-end, count-turn}
+use Rattle.trace.proofs.FieldLaws.{whole-at, no-call, fields-end, count-turn, number-counted, calls-counted}
 use Rattle.trace.proofs.fields.check_fields.Statement.{statement}
 use Rattle.trace.proofs.fields.check_fields.Tie as tie
 
@@ -29,9 +29,10 @@ is-call-field-requires c κs = omega arith
 returns : tie.Need-returns Inv-loop μ-loop
 returns c =
     let at = c .before .before .before in
-    let trace = at .before .before .args .trace .now in (
-      sym (ap (counted (at .loop .n)) (no-call trace (at .loop .at) (c .before .before .loop-test .taken) (sym (c .before .is-call-field .ensures) ∙ not-true _ (c .if1 .taken)))) ∙ at .loop .inv .2,
-      omega arith,
+    let trace = at .before .before .args .trace .now in
+    let found = sym (ap (counted (at .loop .n)) (no-call trace (at .loop .at) (c .before .before .loop-test .taken) (sym (c .before .is-call-field .ensures) ∙ not-true _ (c .if1 .taken)))) ∙ at .loop .inv .2 in (
+      ap checkedNumber found ∙ number-counted (laterFields trace),
+      (ap checkedCalls found ∙ calls-counted (laterFields trace), omega arith),
     )
 
 add-at : tie.Need-add-at Inv-loop μ-loop
@@ -76,9 +77,11 @@ loop-again c =
 returns-2 : tie.Need-returns-2 Inv-loop μ-loop
 returns-2 c =
     let at = c .before in
-    let trace = at .before .before .args .trace .now in (
-      ap Calls (omega arith) ∙ sym (ap (counted (at .loop .n)) (fields-end (drop (at .loop .at) trace) (omega (arith, length-drop (at .loop .at) trace)))) ∙ at .loop .inv .2,
-      omega arith,
+    let trace = at .before .before .args .trace .now in
+    let none : at .loop .n ≡ at .loop .n + 0 = omega arith in
+    let found = ap Calls none ∙ sym (ap (counted (at .loop .n)) (fields-end (drop (at .loop .at) trace) (omega (arith, length-drop (at .loop .at) trace)))) ∙ at .loop .inv .2 in (
+      ap checkedNumber found ∙ number-counted (laterFields trace),
+      (ap checkedCalls found ∙ calls-counted (laterFields trace), omega arith),
     )
 
 pub check-fields-spec : {M : Type 1} → statement M

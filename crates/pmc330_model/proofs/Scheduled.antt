@@ -1,0 +1,484 @@
+-- The stores of a logbook are those of the schedule, and its ticks those of the accepted advances.
+use mathlib.Core.Bool.{Bool, true, false, not, cond, _&&_, _||_}
+use mathlib.Core.List.{List, [], _∷_}
+use mathlib.Core.Logic.{_⊎_, inl, inr, ⊎-elim}
+use mathlib.Core.Path.{_≡_, refl, sym, ap, subst, _∙_}
+use Prim.Native.Nat.{ℕ, zero, suc, _+_, _-_, _≤_, _<_}
+use native.Mathlib.Nat.{add-zero, add-suc, suc-add}
+use native.Mathlib.Omega.{arith}
+use lib.Dec.{eqb, leb}
+use lib.ListN.{length}
+use borrow.Author.Tests.{eq-eqb, ne-eqb, eqb-true, le-leb, leb-true}
+use Rattle.analog.specs.Answers.{Question, firstNo, allMet}
+use Rattle.analog.proofs.AnswerLaws.{none-first, some-first}
+use Rattle.pmc330_model.specs.Map.{Register, unmapped, interrupt, control, prescaler, timer, channels, startConvert, newData, missedData, gain, mailbox, classOf, triggerField, scanField}
+use Rattle.pmc330_model.specs.Words.{isRelease, isStop, isStart}
+use Rattle.pmc330_model.specs.Schedule.{isBurst, isSingle, isTimed, isTriggerOnly, channelOf, slotOf, endsPass, codeAt, formattedBy, isInterrupting, beginsAt, isScheduled, Due, none, conversion, orElse, firstFrom}
+use Rattle.pmc330_model.specs.Calls.{Call, read, write, input, advance, trigger, reset}
+use Rattle.pmc330_model.specs.Questions.{callQuestions, resultingWord, hasChannels, hasInterval}
+use Rattle.pmc330_model.specs.Logbook.{Event, Running, idle, since, release, cycleStart, store, Logbook, withHappened, begins, stores, storesInTime, dueAfter, ifDue, storesDue, beginsDue, tickPasses, ticksPass, starts, isTaken, storesBefore, takes, triggeredIn, triggerComes, readEvent, writes, happens, isIdle, logbookQuestions, logged}
+use Rattle.pmc330_model.specs.Sentences.{InCycle, mayStore, storesAmong, Scheduled, isTimeless, EveryTick}
+use Rattle.pmc330_model.specs.declared.Registers.{Registers}
+use Rattle.pmc330_model.proofs.Agreement.{Startable}
+use Rattle.pmc330_model.proofs.Cases.{lt-or-le, true-or-false, and-left, and-right, never}
+use Rattle.pmc330_model.proofs.Due.{due-found, due-none, unscheduled-later, scheduled-next}
+use Rattle.pmc330_model.proofs.QuestionLaws.{questions-numbered, running-unstarted}
+use Rattle.pmc330_model.proofs.Schedule.{before, search-none}
+
+-- ---- the search
+
+-- what the search finds passes the test
+search-real : (test : ℕ → Bool) (n from k : ℕ) → firstFrom test n from ≡ conversion k → test k ≡ true
+unfolding firstFrom
+search-real test zero from k e = let z : _≡_ {A = ℕ} 0 1 = cc in absurd (omega arith)
+search-real test (suc n) from k e = go (test from) refl (search-real test n (suc from) k) e
+  where
+    go :
+        (t : Bool) → test from ≡ t → (firstFrom test n (suc from) ≡ conversion k → test k ≡ true)
+        → orElse t from (firstFrom test n (suc from)) ≡ conversion k → test k ≡ true
+    go true here later e = let same : from ≡ k = cc in subst (λ (i : ℕ). test i ≡ true) same here
+    go false here later e = later e
+
+-- ---- a tick
+
+-- the tick before its store, and after it
+abbrev next : Logbook → Logbook
+next l = withHappened l (suc (l .tick)) (l .taken) (l .cycle) (l .events)
+
+-- a beginning is no event, takes no time and leaves the cycle
+record Same (before after : Logbook) : Type 0 where
+  events : after .events ≡ before .events
+  tick : after .tick ≡ before .tick
+  cycle : after .cycle ≡ before .cycle
+
+begins-same : (l : Logbook) → Same l (beginsDue l)
+begins-same l = go (dueAfter 0 (l .registers) (l .tick) (l .cycle))
+  where
+    go : (due : Due) → Same l (ifDue due begins l)
+    go none = record { events = refl; tick = refl; cycle = refl }
+    go (conversion k) = record { events = refl; tick = refl; cycle = refl }
+
+-- whether the store that is due ends a single cycle
+abbrev endsCycle : Registers → Due → Bool
+endsCycle r none = false
+endsCycle r (conversion k) = isSingle r && endsPass r k
+
+-- the store that is due is the tick's one event
+record Stored (l after : Logbook) (due : Due) : Type 0 where
+  events : after .events ≡ ifDue due stores l .events
+  tick : after .tick ≡ suc (l .tick)
+  cycle : after .cycle ≡ cond (endsCycle (l .registers) due) idle (l .cycle)
+
+stored-is : (l : Logbook) (due : Due) → dueAfter 64 (l .registers) (suc (l .tick)) (l .cycle) ≡ due → Stored l (storesDue (next l)) due
+stored-is l due e = subst (λ (d : Due). Stored l (ifDue d storesInTime (next l)) due) (sym e) (go due)
+  where
+    go : (d : Due) → Stored l (ifDue d storesInTime (next l)) d
+    go none = record { events = refl; tick = refl; cycle = refl }
+    go (conversion k) = record { events = refl; tick = refl; cycle = refl }
+
+tick-is : (l : Logbook) (due : Due) → dueAfter 64 (l .registers) (suc (l .tick)) (l .cycle) ≡ due → Stored l (tickPasses l) due
+unfolding tickPasses
+tick-is l due e =
+    let stored = stored-is l due e in
+    let same = begins-same (storesDue (next l)) in
+    record { events = same .events ∙ stored .events; tick = same .tick ∙ stored .tick; cycle = same .cycle ∙ stored .cycle }
+
+-- the code that the tick takes, by what begins at it once the store is made
+tick-taken :
+    (l : Logbook) (stored due : Due) → dueAfter 64 (l .registers) (suc (l .tick)) (l .cycle) ≡ stored
+    → dueAfter 0 (l .registers) (suc (l .tick)) (cond (endsCycle (l .registers) stored) idle (l .cycle)) ≡ due
+    → tickPasses l .taken ≡ ifDue due begins l .taken
+unfolding tickPasses
+tick-taken l stored due e f =
+    subst (λ (d : Due). beginsDue (ifDue d storesInTime (next l)) .taken ≡ ifDue due begins l .taken) (sym e) (after stored f)
+  where
+    given : (d : Due) → ifDue d begins l .taken ≡ ifDue d begins (next l) .taken
+    given none = refl
+    given (conversion k) = refl
+
+    held : (d : Due) (k : ℕ) → ifDue d begins (next l) .taken ≡ ifDue d begins (storesInTime k (next l)) .taken
+    held none k = refl
+    held (conversion j) k = refl
+
+    after :
+        (d : Due) → dueAfter 0 (l .registers) (suc (l .tick)) (cond (endsCycle (l .registers) d) idle (l .cycle)) ≡ due
+        → beginsDue (ifDue d storesInTime (next l)) .taken ≡ ifDue due begins l .taken
+    after none f = ap (λ (x : Due). ifDue x begins (next l) .taken) f ∙ sym (given due)
+    after (conversion k) f =
+        ap (λ (x : Due). ifDue x begins (storesInTime k (next l)) .taken) f ∙ sym (held due k) ∙ sym (given due)
+
+-- a mode that is not timed has no conversion in time, and neither has an idle board
+untimed-due : (delay : ℕ) (r : Registers) (tick : ℕ) (cycle : Running) → isTimed r ≡ false → dueAfter delay r tick cycle ≡ none
+unfolding dueAfter
+untimed-due delay r tick idle untimed = refl
+untimed-due delay r tick (since T triggers) untimed = search-none _ (suc tick) 0 (λ j low. rw untimed)
+
+idle-due : (delay : ℕ) (r : Registers) (tick : ℕ) (cycle : Running) → cycle ≡ idle → dueAfter delay r tick cycle ≡ none
+unfolding dueAfter
+idle-due delay r tick cycle e = ap (dueAfter delay r tick) e
+
+-- ---- a timed cycle
+
+module _ (l : Logbook) (T : ℕ) (triggers : List ℕ) (running : l .cycle ≡ since T triggers) (timed : isTimed (l .registers) ≡ true)
+    (startable : Startable (l .registers)) where
+  abbrev r : Registers
+  r = l .registers
+
+  real :
+      (delay tick k : ℕ) → dueAfter delay r tick (since T triggers) ≡ conversion k
+      → (isScheduled r k ≡ true) × (T + beginsAt r k + delay ≡ tick)
+  unfolding dueAfter
+  real delay tick k e =
+      let passed = search-real (λ i. isScheduled r i && eqb (T + beginsAt r i + delay) tick) (suc tick) 0 k e in
+      let at = eqb (T + beginsAt r k + delay) tick in
+      (and-left (isScheduled r k) at passed, eqb-true _ _ (and-right (isScheduled r k) at passed))
+
+  one : (i k : ℕ) → beginsAt r i ≡ beginsAt r k → i ≡ k
+  one i k e =
+      ⊎-elim
+      (λ (less : i < k). absurd (omega (arith, before r (startable .slow) i k less)))
+      (λ (least : k ≤ i).
+      ⊎-elim
+      (λ (more : k < i). absurd (omega (arith, before r (startable .slow) k i more)))
+      (λ (most : i ≤ k). omega arith)
+      (lt-or-le k i))
+      (lt-or-le i k)
+
+  -- a conversion that begins later has a number above
+  after : (j k : ℕ) → beginsAt r j + 64 ≡ beginsAt r k → suc j ≤ k
+  after j k e =
+      ⊎-elim
+      (λ (less : j < k). less)
+      (λ (least : k ≤ j).
+      ⊎-elim
+      (λ (more : k < j). absurd (omega (arith, before r (startable .slow) k j more)))
+      (λ (most : j ≤ k). let same : j ≡ k = omega arith in absurd (omega (arith, ap (beginsAt r) same)))
+      (lt-or-le k j))
+      (lt-or-le j k)
+
+  found-now : (delay k : ℕ) → isScheduled r k ≡ true → T + beginsAt r k + delay ≡ suc (l .tick) → dueAfter delay r (suc (l .tick)) (l .cycle) ≡ conversion k
+  found-now delay k scheduled at =
+      ap (dueAfter delay r (suc (l .tick))) running ∙ due-found r startable T delay (suc (l .tick)) k triggers scheduled at
+
+  none-now :
+      (delay : ℕ) → ((k : ℕ) → isScheduled r k ≡ true → T + beginsAt r k + delay ≡ suc (l .tick) → ⊥)
+      → dueAfter delay r (suc (l .tick)) (l .cycle) ≡ none
+  none-now delay fails = ap (dueAfter delay r (suc (l .tick))) running ∙ due-none r startable T delay (suc (l .tick)) triggers fails
+
+  -- the store of a tick at which a conversion begins does not end the cycle: the one that begins is scheduled later
+  goes-on :
+      (k : ℕ) → isScheduled r k ≡ true → T + beginsAt r k ≡ suc (l .tick)
+      → (due : Due) → dueAfter 64 r (suc (l .tick)) (l .cycle) ≡ due → endsCycle r due ≡ false
+  goes-on k scheduled at none e = refl
+  goes-on k scheduled at (conversion j) e =
+      let stored = real 64 (suc (l .tick)) j (sym (ap (dueAfter 64 r (suc (l .tick))) running) ∙ e) in
+      let less : suc j ≤ k = after j k (omega (arith, stored .1)) in
+      ⊎-elim
+      (λ (last : (isSingle r && endsPass r j) ≡ true).
+      let off : isScheduled r (suc j) ≡ false = scheduled-next r timed j (stored .0) ∙ ap not last in
+      never (isScheduled r k) scheduled (unscheduled-later r timed (suc j) k off less))
+      (λ (more : (isSingle r && endsPass r j) ≡ false). more)
+      (true-or-false (isSingle r && endsPass r j))
+
+  begun :
+      (k : ℕ) → isScheduled r k ≡ true → T + beginsAt r k ≡ suc (l .tick)
+      → tickPasses l .taken ≡ codeAt (l .range) r (l .gains) (l .inputs) (channelOf r k)
+  begun k scheduled at =
+      tick-taken l (dueAfter 64 r (suc (l .tick)) (l .cycle)) (conversion k) refl
+      (ap (λ (t : Bool). dueAfter 0 r (suc (l .tick)) (cond t idle (l .cycle)))
+      (goes-on k scheduled at (dueAfter 64 r (suc (l .tick)) (l .cycle)) refl)
+      ∙ found-now 0 k scheduled (add-zero (T + beginsAt r k) ∙ at))
+
+  unbegun : ((k : ℕ) → isScheduled r k ≡ true → T + beginsAt r k ≡ suc (l .tick) → ⊥) → tickPasses l .taken ≡ l .taken
+  unbegun fails = tick-taken l (dueAfter 64 r (suc (l .tick)) (l .cycle)) none refl (go (endsCycle r (dueAfter 64 r (suc (l .tick)) (l .cycle))))
+    where
+      go : (ends : Bool) → dueAfter 0 r (suc (l .tick)) (cond ends idle (l .cycle)) ≡ none
+      go true = idle-due 0 r (suc (l .tick)) idle refl
+      go false = none-now 0 (λ k scheduled at. fails k scheduled (sym (add-zero (T + beginsAt r k)) ∙ at))
+
+  in-cycle : InCycle l T triggers
+  in-cycle =
+      record {
+        found = λ delay tick k. due-found r startable T delay tick k triggers;
+        real = real;
+        one = one;
+        stored = λ k scheduled at. tick-is l (conversion k) (found-now 64 k scheduled at) .events;
+        unstored = λ fails. tick-is l none (none-now 64 fails) .events;
+        begun = begun;
+        unbegun = unbegun;
+      }
+
+-- ---- a call: what it leaves as it is
+
+-- what holds of a logbook before a call and after it has happened holds after the call, refused or not
+either : (P : Logbook → Type 0) (l : Logbook) (call : Call) → (firstNo (logbookQuestions l call) ≡ 0 → P (happens l call)) → P l → P (logged l call)
+unfolding logged
+either P l call happened before = go (eqb (firstNo (logbookQuestions l call)) 0) refl
+  where
+    go : (accepted : Bool) → eqb (firstNo (logbookQuestions l call)) 0 ≡ accepted → P (cond accepted (happens l call) l)
+    go true e = happened (eqb-true _ _ e)
+    go false e = before
+
+-- a start makes no store and takes no time
+record Still (before after : Logbook) : Type 0 where
+  made : storesAmong (after .events) ≡ storesAmong (before .events)
+  tick : after .tick ≡ before .tick
+
+start-still : (l : Logbook) → Still l (starts l)
+unfolding starts storesAmong
+start-still l = go (isBurst (l .registers)) (withHappened l (l .tick) (l .taken) (since (l .tick) []) (cycleStart ∷ l .events)) refl refl
+  where
+    go : (burst : Bool) (fresh : Logbook) → storesAmong (fresh .events) ≡ storesAmong (l .events) → fresh .tick ≡ l .tick → Still l (cond burst (begins 0 fresh) fresh)
+    go true fresh made tick = record { made = made; tick = tick }
+    go false fresh made tick = record { made = made; tick = tick }
+
+if-starts : (l written : Logbook) (start : Bool) → Still l written → Still l (cond start (starts written) written)
+if-starts l written true h =
+    record { made = start-still written .made ∙ h .made; tick = start-still written .tick ∙ h .tick }
+if-starts l written false h = h
+
+-- a read is no store
+read-still : (register : Register) (events : List Event) → storesAmong (readEvent register events) ≡ storesAmong events
+unfolding storesAmong
+read-still unmapped events = refl
+read-still interrupt events = refl
+read-still control events = refl
+read-still prescaler events = refl
+read-still timer events = refl
+read-still channels events = refl
+read-still startConvert events = refl
+read-still (newData half) events = refl
+read-still (missedData half) events = refl
+read-still (gain group) events = refl
+read-still (mailbox slot) events = refl
+
+write-still : (register : Register) (word : ℕ) (l : Logbook) → Still l (writes register word l)
+unfolding writes storesAmong
+write-still register word l = if-starts l _ (isStart register word) (record { made = released (isRelease register word); tick = refl })
+  where
+    released : (r : Bool) → storesAmong (cond r (release ∷ l .events) (l .events)) ≡ storesAmong (l .events)
+    released true = refl
+    released false = refl
+
+-- ---- a trigger
+
+-- what holds of a logbook, of its start where it is idle, and of a trigger taken where it is armed, holds after a trigger
+triggered :
+    (P : Logbook → Type 0) (l : Logbook) → P l → (l .cycle ≡ idle → P (starts l))
+    → ((T : ℕ) (triggers : List ℕ) → l .cycle ≡ since T triggers → isTriggerOnly (l .registers) ≡ true
+    → triggerField (l .registers .control) ≡ 1 → isTaken (l .tick) triggers ≡ true → P (takes T triggers l))
+    → P (triggerComes l)
+unfolding triggerComes
+triggered P l before started taken = go (eqb (triggerField (l .registers .control)) 1) refl (l .cycle) refl
+  where
+    starting : l .cycle ≡ idle → (start : Bool) → P (cond start (starts l) l)
+    starting e true = started e
+    starting e false = before
+
+    taking : (T : ℕ) (triggers : List ℕ) → l .cycle ≡ since T triggers → triggerField (l .registers .control) ≡ 1 → (only on-time : Bool) → isTriggerOnly (l .registers) ≡ only → isTaken (l .tick) triggers ≡ on-time → P (cond (only && on-time) (takes T triggers l) l)
+    taking T triggers e field true true o t = taken T triggers e o field t
+    taking T triggers e field true false o t = before
+    taking T triggers e field false on-time o t = before
+
+    go : (acts : Bool) → eqb (triggerField (l .registers .control)) 1 ≡ acts → (cycle : Running) → l .cycle ≡ cycle → P (cond acts (triggeredIn cycle l) l)
+    go false e cycle c = before
+    go true e idle c = starting c (isTimed (l .registers) && hasChannels (l .registers) && hasInterval (l .registers))
+    go true e (since T triggers) c = taking T triggers c (eqb-true _ _ e) (isTriggerOnly (l .registers)) (isTaken (l .tick) triggers) refl refl
+
+trigger-tick : (l : Logbook) → triggerComes l .tick ≡ l .tick
+trigger-tick l = triggered (λ after. after .tick ≡ l .tick) l refl (λ e. start-still l .tick) (λ T triggers e o f t. refl)
+
+trigger-made : (l : Logbook) → isTriggerOnly (l .registers) ≡ false → storesAmong (triggerComes l .events) ≡ storesAmong (l .events)
+trigger-made l other =
+    triggered (λ after. storesAmong (after .events) ≡ storesAmong (l .events)) l refl (λ e. start-still l .made)
+    (λ T triggers e o f t. never (isTriggerOnly (l .registers)) o other)
+
+-- ---- the running cycle
+
+-- what holds of no cycle and of the cycle that runs holds of the cycle after any ticks
+module _ (P : Running → Type 0) (stopped : P idle) where
+  one-of : (ends : Bool) (cycle : Running) → P cycle → P (cond ends idle cycle)
+  one-of true cycle h = stopped
+  one-of false cycle h = h
+
+  ticks-cycle : (n : ℕ) (l : Logbook) → P (l .cycle) → P (ticksPass n l .cycle)
+  unfolding ticksPass
+  ticks-cycle zero l h = h
+  ticks-cycle (suc n) l h =
+      ticks-cycle n (tickPasses l)
+      (subst P (sym (tick-is l (dueAfter 64 (l .registers) (suc (l .tick)) (l .cycle)) refl .cycle))
+      (one-of (endsCycle (l .registers) (dueAfter 64 (l .registers) (suc (l .tick)) (l .cycle))) (l .cycle) h))
+
+  start-cycle : (l : Logbook) → P (since (l .tick) []) → P (starts l .cycle)
+  unfolding starts
+  start-cycle l h = go (isBurst (l .registers)) (withHappened l (l .tick) (l .taken) (since (l .tick) []) (cycleStart ∷ l .events)) h
+    where
+      go : (burst : Bool) (fresh : Logbook) → P (fresh .cycle) → P (cond burst (begins 0 fresh) fresh .cycle)
+      go true fresh h = h
+      go false fresh h = h
+
+  write-cycle : (register : Register) (word : ℕ) (l : Logbook) → P (l .cycle) → (isStart register word ≡ true → P (since (l .tick) [])) → P (writes register word l .cycle)
+  unfolding writes
+  write-cycle register word l h fresh = go (isStart register word) refl _ refl (one-of (isStop register word) (l .cycle) h)
+    where
+      go : (start : Bool) → isStart register word ≡ start → (written : Logbook) → written .tick ≡ l .tick → P (written .cycle) → P (cond start (starts written) written .cycle)
+      go true e written same kept = start-cycle written (subst (λ (tick : ℕ). P (since tick [])) (sym same) (fresh e))
+      go false e written same kept = kept
+
+  -- after any call that happens: a start, where it may come, begins at this tick, and a trigger taken keeps its cycle
+  call-cycle :
+      (l : Logbook) (call : Call) → firstNo (logbookQuestions l call) ≡ 0 → P (l .cycle) → (isIdle (l .cycle) ≡ true → P (since (l .tick) []))
+      → ((T : ℕ) (triggers : List ℕ) → l .cycle ≡ since T triggers → P (since T (l .tick ∷ triggers)))
+      → P (happens l call .cycle)
+  unfolding happens
+  call-cycle l (read width offset) met h fresh more = h
+  call-cycle l (write width offset value) met h fresh more =
+      write-cycle (classOf offset) (resultingWord (l .registers) (l .gains) width offset value) l h
+      (λ start. fresh (was-idle (isIdle (l .cycle)) refl start))
+    where
+      was-idle :
+          (free : Bool) → isIdle (l .cycle) ≡ free → isStart (classOf offset) (resultingWord (l .registers) (l .gains) width offset value) ≡ true
+          → isIdle (l .cycle) ≡ true
+      was-idle true e start = e
+      was-idle false e start =
+          never _ start
+          (running-unstarted (l .registers) (l .gains) width offset value
+          (subst (λ (t : Bool). firstNo (callQuestions (l .registers) (l .gains) t (write width offset value)) ≡ 0) e met))
+  call-cycle l (input channel microvolts) met h fresh more = h
+  call-cycle l (advance ticks) met h fresh more = ticks-cycle ticks l h
+  call-cycle l trigger met h fresh more =
+      triggered (λ after. P (after .cycle)) l h (λ e. start-cycle l (fresh (ap isIdle e))) (λ T triggers e o f t. more T triggers e)
+  call-cycle l reset met h fresh more = stopped
+
+-- a cycle that started at a tick, and one that runs since T
+abbrev StartedAt : (tick : ℕ) → Running → Type 0
+StartedAt tick idle = Unit
+StartedAt tick (since T triggers) = (T ≡ tick) × (triggers ≡ [])
+
+abbrev RunsSince : (T : ℕ) → Running → Type 0
+RunsSince T idle = Unit
+RunsSince T (since later triggers) = later ≡ T
+
+started-there : (l : Logbook) (call : Call) → l .cycle ≡ idle → StartedAt (l .tick) (logged l call .cycle)
+started-there l call e =
+    either (λ after. StartedAt (l .tick) (after .cycle)) l call
+    (λ met.
+    call-cycle (StartedAt (l .tick)) tt l call met now (λ free. (refl, refl))
+    (λ T triggers runs. let z : _≡_ {A = ℕ} 0 1 = ap (λ (c : Running). cond (isIdle c) 0 1) (sym e ∙ runs) in absurd (omega arith)))
+    now
+  where
+    now : StartedAt (l .tick) (l .cycle)
+    now = subst (StartedAt (l .tick)) (sym e) tt
+
+kept-since : (l : Logbook) (call : Call) (T : ℕ) (triggers : List ℕ) → l .cycle ≡ since T triggers → RunsSince T (logged l call .cycle)
+kept-since l call T triggers e =
+    either (λ after. RunsSince T (after .cycle)) l call
+    (λ met.
+    call-cycle (RunsSince T) tt l call met now
+    (λ free. never (isIdle (l .cycle)) free (ap isIdle e))
+    (λ later more runs. subst (RunsSince T) (sym e ∙ runs) refl))
+    now
+  where
+    now : RunsSince T (l .cycle)
+    now = subst (RunsSince T) (sym e) refl
+
+-- ---- external trigger only
+
+module _ (l : Logbook) (only : isTriggerOnly (l .registers) ≡ true) where
+  taken-store :
+      (T last : ℕ) (earlier : List ℕ) → l .cycle ≡ since T (last ∷ earlier) → triggerField (l .registers .control) ≡ 1 → 64 ≤ l .tick - last
+      → logged l trigger .events
+      ≡ (store (slotOf (l .registers) (length earlier)) (formattedBy (l .registers) (l .taken))
+      (isInterrupting (l .registers) (endsPass (l .registers) (length earlier)))
+      ∷ l .events)
+  unfolding logged callQuestions firstNo happens triggerComes
+  taken-store T last earlier e field late =
+      ap (λ (t : Bool). cond t (triggeredIn (l .cycle) l) l .events) (eq-eqb _ 1 field)
+      ∙ ap (λ (c : Running). triggeredIn c l .events) e
+      ∙ ap (λ (t : Bool). cond (t && leb 64 (l .tick - last)) (takes T (last ∷ earlier) l) l .events) only
+      ∙ ap (λ (t : Bool). cond t (takes T (last ∷ earlier) l) l .events) (le-leb 64 (l .tick - last) late)
+
+  untaken-store :
+      isTimed (l .registers) ≡ false
+      → ((T last : ℕ) (earlier : List ℕ) → l .cycle ≡ since T (last ∷ earlier) → triggerField (l .registers .control) ≡ 1 → 64 ≤ l .tick - last → ⊥)
+      → logged l trigger .events ≡ l .events
+  unfolding logged callQuestions firstNo happens triggerComes
+  untaken-store untimed fails = go (eqb (triggerField (l .registers .control)) 1) refl (l .cycle) refl
+    where
+      late : (T last : ℕ) (earlier : List ℕ) → l .cycle ≡ since T (last ∷ earlier) → triggerField (l .registers .control) ≡ 1 → (on-time : Bool) → leb 64 (l .tick - last) ≡ on-time → cond on-time (takes T (last ∷ earlier) l) l .events ≡ l .events
+      late T last earlier e field true t = absurd (fails T last earlier e field (leb-true 64 (l .tick - last) t))
+      late T last earlier e field false t = refl
+
+      go : (acts : Bool) → eqb (triggerField (l .registers .control)) 1 ≡ acts → (cycle : Running) → l .cycle ≡ cycle → cond acts (triggeredIn cycle l) l .events ≡ l .events
+      go false e cycle c = refl
+      go true e idle c = ap (λ (t : Bool). cond (t && hasChannels (l .registers) && hasInterval (l .registers)) (starts l) l .events) untimed
+      go true e (since T []) c = ap (λ (t : Bool). cond (t && true) (takes T [] l) l .events) only
+      go true e (since T (last ∷ earlier)) c =
+          ap (λ (t : Bool). cond (t && leb 64 (l .tick - last)) (takes T (last ∷ earlier) l) l .events) only
+          ∙ late T last earlier c (eqb-true _ _ e) (leb 64 (l .tick - last)) refl
+
+-- ---- the clauses
+
+other-made : (l : Logbook) (call : Call) → mayStore (l .registers) call ≡ false → storesAmong (happens l call .events) ≡ storesAmong (l .events)
+unfolding happens storesAmong
+other-made l (read width offset) other = read-still (classOf offset) (l .events)
+other-made l (write width offset value) other =
+    write-still (classOf offset) (resultingWord (l .registers) (l .gains) width offset value) l .made
+other-made l (input channel microvolts) other = refl
+other-made l (advance ticks) other = never true refl other
+other-made l trigger other = trigger-made l other
+other-made l reset other = refl
+
+-- external trigger only is scan 101, and no timed mode
+only-untimed : (r : Registers) → isTriggerOnly r ≡ true → isTimed r ≡ false
+only-untimed r only =
+    ap (λ (scan : ℕ). (eqb scan 1 || eqb scan 2) || (eqb scan 3 || eqb scan 4)) (eqb-true (scanField (r .control)) 5 only)
+
+pub scheduled :
+    (l : Logbook) → ((T : ℕ) (triggers : List ℕ) → l .cycle ≡ since T triggers → Startable (l .registers)) → Scheduled l
+scheduled l startable =
+    record {
+      started = λ call T triggers e f. subst (StartedAt (l .tick)) f (started-there l call e);
+      kept = λ call T later triggers more e f. subst (RunsSince T) f (kept-since l call T triggers e);
+      timed = λ T triggers running timed. in-cycle l T triggers running timed (startable T triggers running);
+      untimed = λ untimed. tick-is l none (untimed-due 64 (l .registers) (suc (l .tick)) (l .cycle) untimed) .events;
+      whileIdle = λ stopped. tick-is l none (idle-due 64 (l .registers) (suc (l .tick)) (l .cycle) stopped) .events;
+      taken = λ T last earlier e only. taken-store l only T last earlier e;
+      untaken = λ only. untaken-store l only (only-untimed (l .registers) only);
+      otherCalls = λ call other.
+          either (λ after. storesAmong (after .events) ≡ storesAmong (l .events)) l call (λ met. other-made l call other) refl;
+    }
+
+timeless-tick : (l : Logbook) (call : Call) → isTimeless call ≡ true → happens l call .tick ≡ l .tick
+unfolding happens
+timeless-tick l (read width offset) h = refl
+timeless-tick l (write width offset value) h =
+    write-still (classOf offset) (resultingWord (l .registers) (l .gains) width offset value) l .tick
+timeless-tick l (input channel microvolts) h = refl
+timeless-tick l (advance ticks) h = never false h refl
+timeless-tick l trigger h = trigger-tick l
+timeless-tick l reset h = never false h refl
+
+ticks-passed : (n : ℕ) (l : Logbook) → ticksPass n l .tick ≡ l .tick + n
+unfolding ticksPass
+ticks-passed zero l = sym (add-zero (l .tick))
+ticks-passed (suc n) l = ticks-passed n (tickPasses l) ∙ rw (tick-is l _ refl .tick) (suc-add (l .tick) n ∙ sym (add-suc (l .tick) n))
+
+advance-passed : (l : Logbook) (n : ℕ) → allMet (logbookQuestions l (advance n)) ≡ true → logged l (advance n) ≡ ticksPass n l
+unfolding logged happens
+advance-passed l n met =
+    ap (λ (t : Bool). cond t (ticksPass n l) l)
+    (eq-eqb (firstNo (logbookQuestions l (advance n))) 0 (none-first (logbookQuestions l (advance n)) met))
+
+pub ticks-counted : EveryTick
+unfolding logged happens
+ticks-counted l =
+    record {
+      passed = advance-passed l;
+      advanced = λ n met. ap (λ (after : Logbook). after .tick) (advance-passed l n met) ∙ ticks-passed n l;
+      refused = λ call unmet.
+          ap (λ (t : Bool). cond t (happens l call) l)
+          (ne-eqb (firstNo (logbookQuestions l call)) 0 (λ none.
+          omega (arith, some-first (logbookQuestions l call) (questions-numbered (l .registers) (l .gains) (isIdle (l .cycle)) call) unmet)));
+      others = λ call timeless. either (λ after. after .tick ≡ l .tick) l call (λ met. timeless-tick l call timeless) refl;
+    }
