@@ -14,36 +14,19 @@ pub fn calibration_voltage(code: u32) -> Option<i32> {
     }
 }
 
-/// z: the low end of a range, in microvolts.
-fn low_end(range: u32) -> Fraction {
-    match range {
-        0 => whole(-5_000_000),
-        1 => whole(-10_000_000),
-        2 | 3 => whole(0),
-        _ => panic!("no range {range}"),
-    }
-}
+/// z: the low end of each range, in microvolts.
+const LOW_ENDS: [i32; 4] = [-5_000_000, -10_000_000, 0, 0];
 
-/// s: the width of a range, in microvolts.
-fn width(range: u32) -> Fraction {
-    match range {
-        0 => whole(10_000_000),
-        1 => whole(20_000_000),
-        2 => whole(5_000_000),
-        3 => whole(10_000_000),
-        _ => panic!("no range {range}"),
-    }
-}
+/// s: the width of each range, in microvolts.
+const WIDTHS: [i32; 4] = [10_000_000, 20_000_000, 5_000_000, 10_000_000];
 
 /// g: gain fields 0 to 3 mean gain 1, 2, 4, 8.
-fn gain_of(field: u32) -> Fraction {
-    match field {
-        0 => whole(1),
-        1 => whole(2),
-        2 => whole(4),
-        3 => whole(8),
-        _ => panic!("no gain field {field}"),
-    }
+const GAINS: [i32; 4] = [1, 2, 4, 8];
+
+/// z, s and g of a range and a gain field.
+fn figures(range: u32, gain: u32) -> [i32; 3] {
+    let range = range as usize;
+    [LOW_ENDS[range], WIDTHS[range], GAINS[gain as usize]]
 }
 
 fn limited(count: i128) -> u32 {
@@ -52,7 +35,7 @@ fn limited(count: i128) -> u32 {
 
 /// The code of a voltage before it is rounded: (v * g - z) * 65536 / s.
 pub fn exact_code(range: u32, gain: u32, microvolts: i32) -> Fraction {
-    let (z, s, g) = (low_end(range), width(range), gain_of(gain));
+    let [z, s, g] = figures(range, gain).map(whole);
     (whole(microvolts) * g - z) * whole(65_536) / s
 }
 
@@ -61,9 +44,17 @@ pub fn code(range: u32, gain: u32, microvolts: i32) -> u32 {
     limited(exact_code(range, gain, microvolts).rounded_down())
 }
 
+/// The same code without fractions, for the board: it takes one at every beginning. What is below 0
+/// is limited to 0 before it is divided, and then rounding down is what division does.
+pub fn code_in_whole_numbers(range: u32, gain: u32, microvolts: i32) -> u32 {
+    let [z, s, g] = figures(range, gain).map(i64::from);
+    let top = (i64::from(microvolts) * g - z) * 65_536;
+    (top.max(0) / s).min(65_535) as u32
+}
+
 /// The least whole microvolts whose exact code is not below the given one: where the code steps.
 pub fn least_voltage(range: u32, gain: u32, code: u32) -> i32 {
-    let (z, s, g) = (low_end(range), width(range), gain_of(gain));
+    let [z, s, g] = figures(range, gain).map(whole);
     let exact = (whole(code) * s / whole(65_536) + z) / g;
     i32::try_from(exact.rounded_up()).expect("every step lies between -10 V and 10 V")
 }
@@ -133,7 +124,7 @@ impl Correction {
 
     /// The corrected count before it is rounded; only for a correction that is not refused.
     pub fn exact(&self) -> Fraction {
-        let (z, s, g) = (low_end(self.range), width(self.range), gain_of(self.gain));
+        let [z, s, g] = figures(self.range, self.gain).map(whole);
         let high_voltage = voltage_of(self.high);
         let low_voltage = voltage_of(self.low);
         let high_count = whole(self.high_sum) / whole(32);
@@ -155,4 +146,29 @@ impl Correction {
 
 fn voltage_of(code: u32) -> Fraction {
     whole(calibration_voltage(code).expect("question 15 asks for a calibration code"))
+}
+
+#[cfg(test)]
+mod tests {
+    use super::*;
+    use crate::random::Random;
+
+    /// On every side of every step of every range and gain, and on drawn voltages.
+    #[test]
+    fn both_codes_are_the_same() {
+        let mut random = Random::new(15);
+        for (range, gain) in (0..16).map(|i| (i / 4, i % 4)) {
+            for step in 0..=65_535 {
+                let least = least_voltage(range, gain, step);
+                let drawn = random.between(-35_000_000, 55_000_000) as i32;
+                for microvolts in [least - 1, least, drawn] {
+                    assert_eq!(
+                        code_in_whole_numbers(range, gain, microvolts),
+                        code(range, gain, microvolts),
+                        "range {range}, gain {gain}, {microvolts} uV"
+                    );
+                }
+            }
+        }
+    }
 }

@@ -41,6 +41,9 @@ pub fn code(range: u32, gain: u32, microvolts: i32) -> u32 {
     unsafe { pmc330_code(range, gain, microvolts) }
 }
 
+/// A player: from a trace and an answer buffer to 256 * calls answered + number.
+pub type Player = fn(&[u8], &mut [u8]) -> u64;
+
 extern "C" {
     fn pmc330_play(trace: *const u8, trace_len: usize, answers: *mut u8, answers_len: usize)
         -> u64;
@@ -51,6 +54,35 @@ pub fn play(trace: &[u8], answers: &mut [u8]) -> u64 {
     // Safe: both buffers are lent with their lengths for this call only, and they are apart.
     unsafe {
         pmc330_play(
+            trace.as_ptr(),
+            trace.len(),
+            answers.as_mut_ptr(),
+            answers.len(),
+        )
+    }
+}
+
+/// The player of the archive that PMC330_OLD_ARCHIVE named when this was built, if it was set.
+#[cfg(old_archive)]
+pub const OLD_PLAYER: Option<Player> = Some(old_play);
+#[cfg(not(old_archive))]
+pub const OLD_PLAYER: Option<Player> = None;
+
+#[cfg(old_archive)]
+extern "C" {
+    fn old_pmc330_play(
+        trace: *const u8,
+        trace_len: usize,
+        answers: *mut u8,
+        answers_len: usize,
+    ) -> u64;
+}
+
+#[cfg(old_archive)]
+fn old_play(trace: &[u8], answers: &mut [u8]) -> u64 {
+    // Safe: as above.
+    unsafe {
+        old_pmc330_play(
             trace.as_ptr(),
             trace.len(),
             answers.as_mut_ptr(),

@@ -1,8 +1,8 @@
 //! The board: questions 1 to 14, the schedule and the mailboxes, from the sections of 01.
 //!
-//! Time is absolute here. The board knows its tick and the tick T at which its cycle started, and
-//! finds each beginning from T and the conversion's number k by 01's formulas. An advance goes
-//! from event to event: to the next store or beginning, whichever comes first.
+//! Time is absolute here. The board knows its tick and the tick at which its cycle's next store or
+//! beginning is due. An advance goes from event to event, and over whole repeats of the scan once
+//! they change nothing any more.
 
 use crate::analog::{self, Answer};
 use crate::call::Call;
@@ -19,7 +19,11 @@ pub const BURST_STEP: u64 = 120;
 
 pub const LONGEST_ADVANCE: u32 = 16_777_216;
 
-/// A running cycle. Its conversions are counted from the start on, over all passes.
+/// Due at this tick: nothing comes by itself.
+const NEVER: u64 = u64::MAX;
+
+/// A running cycle. Its conversions are counted from the start on, over all passes. One is stored
+/// before the next begins, so that only one is in flight at a time.
 #[derive(Clone, Copy, Debug, PartialEq, Eq)]
 pub struct Cycle {
     /// T: the tick at which it started.
@@ -30,14 +34,53 @@ pub struct Cycle {
     pub stored: u64,
     /// External trigger only: the tick of the last trigger taken in this cycle.
     pub last_taken: Option<u64>,
+    /// k mod m of the next one to be stored.
+    place: u64,
+    /// What its pass adds to the slot: 16 if differential and the pass is odd.
+    half: u64,
+    /// The tick of the next store or beginning that comes by itself.
+    due: u64,
 }
 
-/// What an advance meets. "In one tick a store comes before a beginning": the order of the names.
-#[derive(Clone, Copy, Debug, PartialEq, Eq, PartialOrd, Ord)]
-enum Event {
-    Store,
-    Beginning,
+/// What stays as it is while a call runs: the inputs, and what the registers say of the scan.
+struct Scan<'a> {
+    range: u32,
+    inputs: &'a [i32; 32],
+    registers: &'a Registers,
+    control: Control,
+    /// The first channel.
+    start: u64,
+    /// m: the channels in a pass.
+    m: u64,
+    /// Ticks from a beginning to the next one: in the same pass, and from its last to the next pass.
+    step: u64,
+    turn: u64,
+    /// The voltage that is converted in place of the inputs.
+    calibration: Option<i32>,
+    /// 16 if differential: passes go to the halves of the slots in turn.
+    half: u64,
 }
+
+/// All that stores and beginnings change, beside the cycle.
+#[derive(Clone, Copy, Debug, PartialEq, Eq)]
+struct Data {
+    /// The code in each slot, in the format of its store.
+    mailboxes: [u16; 32],
+    /// New and Missed of each slot, slot 0 in bit 0.
+    new: u32,
+    missed: u32,
+    pending: bool,
+    /// The code last taken, straight binary.
+    taken: u32,
+}
+
+const NO_DATA: Data = Data {
+    mailboxes: [0; 32],
+    new: 0,
+    missed: 0,
+    pending: false,
+    taken: 0,
+};
 
 #[derive(Clone, Debug, PartialEq, Eq)]
 pub struct Board {
@@ -45,19 +88,10 @@ pub struct Board {
     registers: Registers,
     /// Microvolts of each channel.
     inputs: [i32; 32],
-    /// The code in each slot, in the format of its store.
-    mailboxes: [u32; 32],
-    new: [bool; 32],
-    missed: [bool; 32],
-    pending: bool,
+    data: Data,
     /// Ticks since the board was new or reset.
     tick: u64,
     cycle: Option<Cycle>,
-    /// The code last taken, straight binary.
-    taken: u32,
-    /// Gain field, microvolts and code of each channel when it was last worked out. This saves
-    /// time only: exact fractions take long, and inputs seldom change.
-    known_codes: [(u32, i32, u32); 32],
 }
 
 fn accepted(value: u64) -> Answer {
@@ -96,17 +130,13 @@ impl Board {
             range,
             registers: Registers::all_0(),
             inputs,
-            mailboxes: [0; 32],
-            new: [false; 32],
-            missed: [false; 32],
-            pending: false,
+            data: NO_DATA,
             tick: 0,
             cycle: None,
-            taken: 0,
-            known_codes: [(0, 0, analog::code(range, 0, 0)); 32],
         }
     }
 
+    #[inline]
     pub fn call(&mut self, call: &Call) -> Answer {
         match *call {
             Call::Read { width, offset } => self.read(width.into(), offset.into()),
@@ -131,8 +161,8 @@ impl Board {
                 let word = self.word(register);
                 // "A mailbox read of any width clears that slot's New and Missed bits."
                 if let Register::Mailbox(slot) = register {
-                    self.new[slot] = false;
-                    self.missed[slot] = false;
+                    self.data.new &= !(1 << slot);
+                    self.data.missed &= !(1 << slot);
                 }
                 accepted(covered(word, width, offset).into())
             }
@@ -168,20 +198,7 @@ impl Board {
             return refused(13);
         }
         let last = self.tick + u64::from(ticks);
-        let mut stores = 0;
-        while let Some((tick, event)) = self.next_event() {
-            if tick > last {
-                break;
-            }
-            self.tick = tick;
-            match event {
-                Event::Store => {
-                    self.store();
-                    stores += 1;
-                }
-                Event::Beginning => self.begin(),
-            }
-        }
+        let stores = self.run(last);
         self.tick = last;
         accepted(stores)
     }
@@ -190,10 +207,10 @@ impl Board {
     pub fn trigger(&mut self) -> Answer {
         let control = self.registers.control;
         if control.trigger() == TRIGGER_INPUT {
-            match self.cycle {
-                None => self.trigger_while_idle(),
-                Some(cycle) if control.scan() == TRIGGER_ONLY => self.trigger_while_armed(cycle),
-                Some(_) => (),
+            if self.is_idle() {
+                self.trigger_while_idle();
+            } else if control.scan() == TRIGGER_ONLY {
+                self.trigger_while_armed();
             }
         }
         accepted(0)
@@ -207,7 +224,7 @@ impl Board {
 
     /// "The request line is enable and pending."
     pub fn request_line(&self) -> bool {
-        self.registers.enable && self.pending
+        self.registers.enable && self.data.pending
     }
 }
 
@@ -216,7 +233,8 @@ impl Board {
 /// Questions 1 to 3: the register that an access of this width and offset is made to.
 fn register_of(width: u32, offset: u32) -> Result<Register, u64> {
     ask(1, matches!(width, 8 | 16 | 32))?;
-    ask(2, offset < 256 && offset % (width / 8) == 0)?;
+    // 1, 2 and 4 bytes: a multiple has no bit below that one.
+    ask(2, offset < 256 && offset & (width / 8 - 1) == 0)?;
     Register::at(offset).ok_or(3)
 }
 
@@ -245,31 +263,22 @@ fn merged(word: u32, width: u32, offset: u32, value: u32) -> u32 {
     }
 }
 
-fn bit(number: usize, is_set: bool) -> u32 {
-    u32::from(is_set) << number
-}
-
-/// The bits of 16 slots, from the first on.
-fn bits(slots: &[bool; 32], first: usize) -> u32 {
-    (0..16).map(|i| bit(i, slots[first + i])).sum()
-}
-
 impl Board {
     /// What a 16-bit read of a register gives.
     fn word(&self, register: Register) -> u32 {
         let registers = &self.registers;
         match register {
-            Register::Interrupt => bit(0, registers.enable) | bit(1, self.pending),
+            Register::Interrupt => u32::from(registers.enable) | u32::from(self.data.pending) << 1,
             Register::Control => registers.control.word(),
             Register::Prescaler => registers.prescaler << 8,
             Register::Timer => registers.timer,
             Register::Channels => registers.end << 8 | registers.start,
-            Register::NewData(first) => bits(&self.new, first),
-            Register::MissedData(first) => bits(&self.missed, first),
+            Register::NewData(first) => self.data.new >> first & 0xFFFF,
+            Register::MissedData(first) => self.data.missed >> first & 0xFFFF,
             // Write only: it holds nothing that a narrow write could keep.
             Register::StartConvert => 0,
-            Register::Gain(first) => (0..8).map(|i| registers.gains[first + i] << (2 * i)).sum(),
-            Register::Mailbox(slot) => self.mailboxes[slot],
+            Register::Gain(word) => registers.gains[word],
+            Register::Mailbox(slot) => self.data.mailboxes[slot].into(),
         }
     }
 
@@ -296,7 +305,7 @@ impl Board {
                 registers.enable = word & 1 == 1;
                 // "Writing 1 to bit 15 releases (pending becomes 0)."
                 if word & 0x8000 != 0 {
-                    self.pending = false;
+                    self.data.pending = false;
                 }
             }
             Register::Control => {
@@ -309,11 +318,7 @@ impl Board {
             Register::Prescaler => registers.prescaler = word >> 8,
             Register::Timer => registers.timer = word,
             Register::Channels => (registers.start, registers.end) = (word & 0xFF, word >> 8),
-            Register::Gain(first) => {
-                for i in 0..8 {
-                    registers.gains[first + i] = word >> (2 * i) & 0b11;
-                }
-            }
+            Register::Gain(place) => registers.gains[place] = word,
             Register::StartConvert if word & 1 == 1 => self.start(),
             Register::StartConvert => (),
             Register::NewData(_) | Register::MissedData(_) | Register::Mailbox(_) => {
@@ -346,23 +351,30 @@ fn is_open_while_busy(register: Register, word: u32) -> bool {
     }
 }
 
-// The schedule.
+// Cycles: how they start, and how they go on with time and triggers.
 
 impl Board {
     /// "All New and Missed bits clear." "A burst's first beginning is part of the call that starts
     /// it." A cycle that is armed for triggers begins nothing by itself.
     fn start(&mut self) {
-        self.new = [false; 32];
-        self.missed = [false; 32];
+        let control = self.registers.control;
+        let due = match control.scan() {
+            TRIGGER_ONLY => NEVER,
+            _ if control.is_uniform() => self.tick + self.registers.interval(),
+            _ => self.tick,
+        };
+        self.data.new = 0;
+        self.data.missed = 0;
         self.cycle = Some(Cycle {
             start: self.tick,
             begun: 0,
             stored: 0,
             last_taken: None,
+            place: 0,
+            half: 0,
+            due,
         });
-        if self.next_event() == Some((self.tick, Event::Beginning)) {
-            self.begin();
-        }
+        self.run(self.tick);
     }
 
     /// Starts a cycle "in scan 001 to 100 ... if questions 9 and 10 are met".
@@ -375,113 +387,161 @@ impl Board {
 
     /// "Taken if armed and either the first in this cycle or 64 or more ticks after the last one
     /// taken in it." Its store comes first, then its code.
-    fn trigger_while_armed(&mut self, cycle: Cycle) {
+    fn trigger_while_armed(&mut self) {
+        let Some(cycle) = &mut self.cycle else {
+            return;
+        };
         if cycle
             .last_taken
             .is_some_and(|last| self.tick - last < CONVERSION)
         {
             return;
         }
+        let scan = Scan::of(self.range, &self.registers, &self.inputs);
         if cycle.begun > 0 {
-            self.store();
+            scan.store(cycle, &mut self.data);
         }
-        self.begin();
-        self.running().last_taken = Some(self.tick);
+        scan.begin(cycle, &mut self.data);
+        cycle.last_taken = Some(self.tick);
     }
 
-    fn running(&mut self) -> &mut Cycle {
-        self.cycle.as_mut().expect("a cycle runs")
+    /// Handles all that is due after this tick and up to the last; gives the number of stores.
+    fn run(&mut self, last: u64) -> u64 {
+        let Some(cycle) = &mut self.cycle else {
+            return 0;
+        };
+        if cycle.due > last {
+            return 0;
+        }
+        let scan = Scan::of(self.range, &self.registers, &self.inputs);
+        let stored = cycle.stored;
+        if !scan.control.is_single() {
+            scan.skip_repeats(cycle, &mut self.data, self.tick, last);
+        }
+        scan.events(cycle, &mut self.data, last);
+        let stores = cycle.stored - stored;
+        // "Single modes have k below m; the board is idle from the last store."
+        if scan.control.is_single() && cycle.stored == scan.m {
+            self.cycle = None;
+        }
+        stores
+    }
+}
+
+// The schedule.
+
+impl Scan<'_> {
+    fn of<'a>(range: u32, registers: &'a Registers, inputs: &'a [i32; 32]) -> Scan<'a> {
+        let control = registers.control;
+        let (step, turn) = if control.is_uniform() {
+            (registers.interval(), registers.interval())
+        } else {
+            (BURST_STEP, BURST_STEP + registers.delay())
+        };
+        Scan {
+            range,
+            inputs,
+            registers,
+            control,
+            start: registers.start.into(),
+            m: registers.channels_in_a_pass(),
+            step,
+            turn,
+            calibration: analog::calibration_voltage(control.acquisition()),
+            half: if control.is_differential() { 16 } else { 0 },
+        }
     }
 
-    /// The next store or beginning that comes by itself, with its tick.
-    fn next_event(&self) -> Option<(u64, Event)> {
-        let cycle = self.cycle?;
-        let control = self.registers.control;
-        if control.scan() == TRIGGER_ONLY {
-            return None;
+    /// A continuous scan repeats itself after a pass, or after two if they go to halves in turn.
+    fn passes_to_repeat(&self) -> u64 {
+        if self.half == 0 {
+            1
+        } else {
+            2
         }
-        let is_in_flight = cycle.stored < cycle.begun;
-        // "Single modes have k below m."
-        let is_to_begin = !control.is_single() || cycle.begun < self.registers.channels_in_a_pass();
-        let store = || self.beginning(cycle, cycle.stored) + CONVERSION;
-        let beginning = || self.beginning(cycle, cycle.begun);
-        let events = [
-            is_in_flight.then(|| (store(), Event::Store)),
-            is_to_begin.then(|| (beginning(), Event::Beginning)),
-        ];
-        events.into_iter().flatten().min()
     }
 
-    /// The tick at which conversion k begins.
-    fn beginning(&self, cycle: Cycle, k: u64) -> u64 {
-        let registers = &self.registers;
-        if registers.control.is_uniform() {
-            return cycle.start + (k + 1) * registers.interval();
+    /// Runs two repeats of the scan, if it repeats itself often enough, and skips the whole ones that
+    /// are left. After the first every slot of the scan has New, after the second Missed and its
+    /// channel's code of now: a third changes nothing. Nor does the second, if the first didn't.
+    fn skip_repeats(&self, cycle: &mut Cycle, data: &mut Data, now: u64, last: u64) {
+        let ticks = self.passes_to_repeat() * (self.step * (self.m - 1) + self.turn);
+        if cycle.due + 3 * ticks > last {
+            return;
         }
-        let m = registers.channels_in_a_pass();
-        let pass = BURST_STEP * m + registers.delay();
-        cycle.start + (k / m) * pass + BURST_STEP * (k % m)
+        let mut tick = now;
+        // What comes before the first beginning isn't part of a repeat.
+        if cycle.begun == 0 {
+            tick = cycle.due;
+            self.events(cycle, data, tick);
+        }
+        for _ in 0..2 {
+            let before = *data;
+            tick += ticks;
+            self.events(cycle, data, tick);
+            if *data == before {
+                break;
+            }
+        }
+        let repeats = (last - tick) / ticks;
+        let conversions = repeats * self.passes_to_repeat() * self.m;
+        cycle.due += repeats * ticks;
+        cycle.begun += conversions;
+        cycle.stored += conversions;
+    }
+
+    /// From event to event.
+    fn events(&self, cycle: &mut Cycle, data: &mut Data, last: u64) {
+        while cycle.due <= last {
+            if cycle.stored == cycle.begun {
+                self.begin(cycle, data);
+                cycle.due += CONVERSION;
+                continue;
+            }
+            self.store(cycle, data);
+            cycle.due = match cycle.place {
+                0 if self.control.is_single() => NEVER,
+                0 => cycle.due - CONVERSION + self.turn,
+                _ => cycle.due - CONVERSION + self.step,
+            };
+        }
     }
 
     /// "Conversion k is in pass k div m, on channel Start + (k mod m). It takes its code when it
     /// begins."
-    fn begin(&mut self) {
-        let m = self.registers.channels_in_a_pass();
-        let start = u64::from(self.registers.start);
-        let cycle = self.running();
-        assert_eq!(cycle.begun, cycle.stored, "one conversion at a time");
-        let channel = start + cycle.begun % m;
+    fn begin(&self, cycle: &mut Cycle, data: &mut Data) {
+        let channel = (self.start + cycle.place) as usize;
+        // Of its input, or of the calibration voltage.
+        let voltage = self.calibration.unwrap_or(self.inputs[channel]);
+        let gain = self.registers.gain(channel);
+        data.taken = analog::code_in_whole_numbers(self.range, gain, voltage);
         cycle.begun += 1;
-        self.taken = self.code_of(channel as usize);
-    }
-
-    /// The straight code of a channel now: of its input, or of the calibration voltage.
-    fn code_of(&mut self, channel: usize) -> u32 {
-        let calibration = analog::calibration_voltage(self.registers.control.acquisition());
-        let voltage = calibration.unwrap_or(self.inputs[channel]);
-        let gain = self.registers.gains[channel];
-        let known = self.known_codes[channel];
-        if (known.0, known.1) != (gain, voltage) {
-            let code = analog::code(self.range, gain, voltage);
-            self.known_codes[channel] = (gain, voltage, code);
-        }
-        self.known_codes[channel].2
     }
 
     /// "A store puts the code in its slot and sets New, and Missed too if New was set already."
-    fn store(&mut self) {
-        let control = self.registers.control;
-        let m = self.registers.channels_in_a_pass();
-        let k = self.running().stored;
-        let slot = self.slot_of(k);
-        self.mailboxes[slot] = if control.is_straight() {
-            self.taken
+    fn store(&self, cycle: &mut Cycle, data: &mut Data) {
+        let slot = (self.start + cycle.place + cycle.half) as usize;
+        let code = if self.control.is_straight() {
+            data.taken
         } else {
-            analog::in_twos_complement(self.taken)
+            analog::in_twos_complement(data.taken)
         };
-        self.missed[slot] |= self.new[slot];
-        self.new[slot] = true;
-        let is_last_of_pass = k % m == m - 1;
-        let interrupts = match control.interrupt() {
+        data.mailboxes[slot] = code as u16;
+        data.missed |= data.new & 1 << slot;
+        data.new |= 1 << slot;
+        cycle.stored += 1;
+        cycle.place += 1;
+        let is_last_of_pass = cycle.place == self.m;
+        if is_last_of_pass {
+            cycle.place = 0;
+            cycle.half ^= self.half;
+        }
+        // "Pending becomes 1, enabled or not."
+        data.pending |= match self.control.interrupt() {
             EACH_STORE => true,
             LAST_STORE_OF_A_PASS => is_last_of_pass,
             _ => false,
         };
-        // "Pending becomes 1, enabled or not."
-        self.pending |= interrupts;
-        self.running().stored += 1;
-        // "The board is idle from the last store."
-        if control.is_single() && is_last_of_pass {
-            self.cycle = None;
-        }
-    }
-
-    /// "Its slot is the channel, plus 16 if differential and the pass is odd."
-    fn slot_of(&self, k: u64) -> usize {
-        let m = self.registers.channels_in_a_pass();
-        let channel = u64::from(self.registers.start) + k % m;
-        let is_second_half = self.registers.control.is_differential() && k / m % 2 == 1;
-        (channel + if is_second_half { 16 } else { 0 }) as usize
     }
 }
 
@@ -505,15 +565,17 @@ impl Board {
     }
 
     pub fn is_pending(&self) -> bool {
-        self.pending
+        self.data.pending
     }
 
-    pub fn missed(&self) -> &[bool; 32] {
-        &self.missed
+    /// The Missed bits, slot 0 in bit 0.
+    pub fn missed(&self) -> u32 {
+        self.data.missed
     }
 
     /// Ticks until something comes by itself.
     pub fn ticks_to_next_event(&self) -> Option<u64> {
-        self.next_event().map(|(tick, _)| tick - self.tick)
+        let due = self.cycle?.due;
+        (due != NEVER).then(|| due - self.tick)
     }
 }

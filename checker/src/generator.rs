@@ -89,6 +89,21 @@ pub fn long_advances(random: Random, range: u32, count: u32) -> Vec<Call> {
     maker.calls
 }
 
+/// A list of so many cycles, each with steps and advances of up to 5,000 ticks in turn.
+pub fn middle_advances(random: Random, range: u32, count: u32) -> Vec<Call> {
+    let mut maker = Maker::new(random, range, 5_000);
+    for _ in 0..count {
+        maker.begin_a_scene();
+        for _ in 0..maker.random.between(3, 18) {
+            let ticks = maker.random.below(5_001);
+            maker.advance_by(ticks);
+            maker.step();
+            maker.step();
+        }
+    }
+    maker.calls
+}
+
 /// The list that costs the most in the fewest bytes: 32 channels at I = 64, and so many advances
 /// of 262,144 stores.
 pub fn hostile(advances: usize) -> Vec<Call> {
@@ -175,6 +190,13 @@ impl Maker {
 
 impl Maker {
     fn scene(&mut self) {
+        self.begin_a_scene();
+        for _ in 0..self.random.between(5, 35) {
+            self.step();
+        }
+    }
+
+    fn begin_a_scene(&mut self) {
         self.end_the_last_scene();
         let scan = self.random.pick(&[
             UNIFORM_CONTINUOUS,
@@ -185,9 +207,6 @@ impl Maker {
         ]);
         self.set_up(scan, None);
         self.start();
-        for _ in 0..self.random.between(5, 35) {
-            self.step();
-        }
     }
 
     /// Mostly a stop, for a busy board refuses what comes next. Sometimes just that is wanted.

@@ -15,6 +15,7 @@ pub mod generator;
 pub mod logbook;
 pub mod made_up;
 pub mod moments;
+pub mod one_kind;
 pub mod random;
 pub mod registers;
 pub mod script;

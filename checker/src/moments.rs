@@ -130,8 +130,7 @@ impl Moment {
     }
 
     fn sets_missed(&self) -> bool {
-        let pairs = self.before.missed().iter().zip(self.after.missed());
-        pairs.into_iter().any(|(before, after)| !before && *after)
+        self.after.missed() & !self.before.missed() != 0
     }
 
     /// Did the cycle that runs start more than 2^32 ticks ago?

@@ -14,7 +14,7 @@ pub enum Register {
     /// Missed Data of 16 slots, from this one on.
     MissedData(usize),
     StartConvert,
-    /// The gains of eight channels, from this one on.
+    /// The gains of eight channels: which of the four words.
     Gain(usize),
     /// The mailbox of this slot.
     Mailbox(usize),
@@ -40,7 +40,7 @@ impl Register {
             0x1C => Some(Register::MissedData(0)),
             0x20 => Some(Register::MissedData(16)),
             0x24 => Some(Register::StartConvert),
-            0x40..=0x4C => Some(Register::Gain((word as usize - 0x40) / 4 * 8)),
+            0x40..=0x4C => Some(Register::Gain((word as usize - 0x40) / 4)),
             0x80..=0xFC => Some(Register::Mailbox((word as usize - 0x80) / 4)),
             _ => None,
         }
@@ -159,8 +159,8 @@ pub struct Registers {
     pub timer: u32,
     pub start: u32,
     pub end: u32,
-    /// The gain fields: 0 to 3 mean gain 1, 2, 4, 8.
-    pub gains: [u32; 32],
+    /// The four Gain words.
+    pub gains: [u32; 4],
 }
 
 impl Registers {
@@ -172,8 +172,14 @@ impl Registers {
             timer: 0,
             start: 0,
             end: 0,
-            gains: [0; 32],
+            gains: [0; 4],
         }
+    }
+
+    /// The gain field of a channel: 0 to 3 mean gain 1, 2, 4, 8. "Eight channels a word, two bits
+    /// each from bit 0."
+    pub fn gain(&self, channel: usize) -> u32 {
+        self.gains[channel / 8] >> (2 * (channel % 8)) & 0b11
     }
 
     /// I = prescaler * timer, in ticks.

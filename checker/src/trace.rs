@@ -77,30 +77,32 @@ fn first_field(bytes: &[u8]) -> Option<(u8, &[u8], &[u8])> {
     Some((start[0], body, rest))
 }
 
-/// The call of a field; none if its tag isn't a call's, or its length isn't that call's.
-fn call_of(tag: u8, body: &[u8]) -> Option<Call> {
-    let call = match (tag, body) {
-        (0x01, &[width, low, high]) => Call::Read {
+/// Hands the call of a field on; none if its tag isn't a call's, or its length isn't that call's.
+/// Each kind is handed on by itself, so that a player needn't tell them apart once more.
+#[inline]
+fn handed_on<R>(tag: u8, body: &[u8], to: impl FnOnce(Call) -> R) -> Option<R> {
+    let result = match (tag, body) {
+        (0x01, &[width, low, high]) => to(Call::Read {
             width,
             offset: u16::from_le_bytes([low, high]),
-        },
-        (0x02, &[width, low, high, a, b, c, d]) => Call::Write {
+        }),
+        (0x02, &[width, low, high, a, b, c, d]) => to(Call::Write {
             width,
             offset: u16::from_le_bytes([low, high]),
             value: u32::from_le_bytes([a, b, c, d]),
-        },
-        (0x03, &[channel, a, b, c, d]) => Call::Input {
+        }),
+        (0x03, &[channel, a, b, c, d]) => to(Call::Input {
             channel,
             microvolts: i32::from_le_bytes([a, b, c, d]),
-        },
-        (0x04, &[a, b, c, d]) => Call::Advance {
+        }),
+        (0x04, &[a, b, c, d]) => to(Call::Advance {
             ticks: u32::from_le_bytes([a, b, c, d]),
-        },
-        (0x05, &[]) => Call::Trigger,
-        (0x06, &[]) => Call::Reset,
+        }),
+        (0x05, &[]) => to(Call::Trigger),
+        (0x06, &[]) => to(Call::Reset),
         _ => return None,
     };
-    Some(call)
+    Some(result)
 }
 
 /// Question 18: "Has the trace at most 16,777,216 bytes, and is its first field that heading, with
@@ -115,21 +117,38 @@ fn headed(trace: &[u8]) -> Option<(u32, &[u8])> {
     }
 }
 
-/// Question 19: "Is every later field whole, with a call's tag and its length?" The calls.
-fn calls_of(mut bytes: &[u8]) -> Option<Vec<Call>> {
-    let mut calls = Vec::new();
+/// The bytes in the body of each tag's call, tags 01H to 06H.
+const BODIES: [usize; 6] = [3, 7, 5, 4, 0, 0];
+
+/// Question 19: "Is every later field whole, with a call's tag and its length?" How many there are.
+fn count_of(mut bytes: &[u8]) -> Option<usize> {
+    let mut count = 0;
     while !bytes.is_empty() {
         let (tag, body, rest) = first_field(bytes)?;
-        calls.push(call_of(tag, body)?);
+        if BODIES.get(usize::from(tag).wrapping_sub(1)) != Some(&body.len()) {
+            return None;
+        }
+        count += 1;
         bytes = rest;
     }
-    Some(calls)
+    Some(count)
 }
 
-/// Questions 18 and 19: the range and the calls of a trace.
+/// Questions 18 and 19: the range of a trace, the bytes of its calls, and how many they are.
+fn asked(trace: &[u8]) -> Result<(u32, &[u8], usize), u64> {
+    let (range, bytes) = headed(trace).ok_or(18_u64)?;
+    let count = count_of(bytes).ok_or(19_u64)?;
+    Ok((range, bytes, count))
+}
+
+/// The range and the calls of a trace.
 pub fn decoded(trace: &[u8]) -> Result<(u32, Vec<Call>), u64> {
-    let (range, rest) = headed(trace).ok_or(18_u64)?;
-    let calls = calls_of(rest).ok_or(19_u64)?;
+    let (range, mut bytes, count) = asked(trace)?;
+    let mut calls = Vec::with_capacity(count);
+    while let Some((tag, body, rest)) = first_field(bytes) {
+        calls.extend(handed_on(tag, body, |call| call));
+        bytes = rest;
+    }
     Ok((range, calls))
 }
 
@@ -150,19 +169,22 @@ fn answer_bytes(answer: Answer) -> [u8; ANSWER] {
 
 /// Plays a trace; gives 256 * calls answered + number. A refused trace leaves the buffer as it is.
 pub fn play(trace: &[u8], answers: &mut [u8]) -> u64 {
-    let (range, calls) = match decoded(trace) {
-        Ok(decoded) => decoded,
+    let (range, mut bytes, count) = match asked(trace) {
+        Ok(asked) => asked,
         Err(number) => return number,
     };
     // Question 20: "Has the answer buffer at least 5 bytes per call?"
-    if answers.len() < ANSWER * calls.len() {
+    if answers.len() < ANSWER * count {
         return 20;
     }
     let mut board = new_board(range);
-    for (call, place) in calls.iter().zip(answers.chunks_exact_mut(ANSWER)) {
-        place.copy_from_slice(&answer_bytes(board.call(call)));
+    for place in answers.chunks_exact_mut(ANSWER).take(count) {
+        let (tag, body, rest) = first_field(bytes).expect("question 19 is met");
+        let answer = handed_on(tag, body, |call| board.call(&call)).expect("question 19 is met");
+        place.copy_from_slice(&answer_bytes(answer));
+        bytes = rest;
     }
-    256 * calls.len() as u64
+    256 * count as u64
 }
 
 /// "A line per call: index from 1 and number, both decimal, and value as eight hexadecimal digits,

@@ -1,5 +1,5 @@
 //! The independent board against 01's logbook, which goes tick by tick and shares nothing with it
-//! but the code of a voltage: the checker's own check.
+//! but the figures behind the code of a voltage: the checker's own check.
 
 use checker::board::Board;
 use checker::call::Call;

@@ -1,27 +1,32 @@
-//! How fast the archive plays, beside the independent program: calls per second of both, and the
-//! time of the archive divided by that of the independent program; then the longest advance in each
-//! scan mode, beside a short one. Best of several rounds.
+//! How fast the archive plays, beside the independent program and, if PMC330_OLD_ARCHIVE named one
+//! when this was built, beside an older archive: mixed traces, single kinds of calls, a short, a
+//! longer and the longest advance in each scan mode, and the longest trace. Best of several rounds,
+//! the players in turn within a round.
 //!
 //! Run it with `cargo run --release --offline --bin benchmark`.
 
-use checker::archive;
+use checker::archive::{self, Player, OLD_PLAYER};
 use checker::board::LONGEST_ADVANCE;
 use checker::call::Call;
-use checker::generator::{hostile, long_advances, scenes};
+use checker::generator::{hostile, long_advances, middle_advances, scenes};
+use checker::one_kind::{kinds, write_16, Kind};
 use checker::random::Random;
 use checker::trace::{self, trace_of};
 use std::time::Instant;
 
-const ROUNDS: u32 = 7;
+const ROUNDS: usize = 15;
 
-/// The archive alone plays a whole hostile trace only if it can be expected to end within this.
-const PATIENCE: f64 = 120.0;
+/// A trace is played again and again in a round until so many calls are made: a short one by itself
+/// is too short for the clock.
+const CALLS_IN_A_ROUND: usize = 20_000;
 
 struct Load {
     name: &'static str,
     trace: Vec<u8>,
     calls: usize,
     advances: usize,
+    /// What the time is divided by: the calls, or the rounds of a kind.
+    counted: usize,
 }
 
 fn load(name: &'static str, calls: &[Call]) -> Load {
@@ -31,47 +36,106 @@ fn load(name: &'static str, calls: &[Call]) -> Load {
         trace: trace_of(1, calls),
         calls: calls.len(),
         advances: calls.iter().filter(is_advance).count(),
+        counted: calls.len(),
     }
 }
 
-/// Seconds that a player takes for a load, and the answers.
-fn timed(load: &Load, player: fn(&[u8], &mut [u8]) -> u64) -> (f64, Vec<u8>) {
-    let mut answers = vec![0; 5 * load.calls];
+// Measuring.
+
+/// Seconds that a player takes for a load, played so many times.
+fn timed(load: &Load, player: Player, times: usize, answers: &mut [u8]) -> f64 {
     let start = Instant::now();
-    let result = player(&load.trace, &mut answers);
-    let seconds = start.elapsed().as_secs_f64();
-    assert_eq!(result, 256 * load.calls as u64, "{}", load.name);
-    (seconds, answers)
-}
-
-/// Both players in turn, so that a slow moment of the machine meets both. Seconds of the archive.
-fn compare(load: &Load) -> f64 {
-    let (mut archive, mut independent) = (f64::INFINITY, f64::INFINITY);
-    for _ in 0..ROUNDS {
-        let (seconds, answers) = timed(load, archive::play);
-        let (other_seconds, other_answers) = timed(load, trace::play);
-        assert!(answers == other_answers, "{}: answers differ", load.name);
-        archive = archive.min(seconds);
-        independent = independent.min(other_seconds);
+    for _ in 0..times {
+        let result = player(&load.trace, answers);
+        assert_eq!(result, 256 * load.calls as u64, "{}", load.name);
     }
-    let calls = load.calls as f64;
-    println!(
-        "{}: {} calls, {} of them advances",
-        load.name, load.calls, load.advances
-    );
-    println!("  archive     {:>12.0} calls/s", calls / archive);
-    println!("  independent {:>12.0} calls/s", calls / independent);
-    println!(
-        "  archive / independent, time: {:.5}",
-        archive / independent
-    );
-    archive
+    start.elapsed().as_secs_f64()
 }
 
-/// As many longest advances as 16,777,216 bytes hold: 7 bytes each, after heading and five writes.
-fn whole_hostile() -> Load {
-    let advances = (trace::LONGEST_TRACE - 8 - 5 * 10) / 7;
-    load("hostile, 16 MiB", &hostile(advances))
+/// One round of a load: the players in turn, so that a slow moment of the machine meets them all.
+/// Each round begins with another one of them. Keeps the best nanoseconds of each.
+fn play_a_round(load: &Load, players: &[Player], round: usize, best: &mut [f64]) {
+    let times = CALLS_IN_A_ROUND.div_ceil(load.calls);
+    let mut answers = vec![vec![0; 5 * load.calls]; players.len()];
+    for turn in 0..players.len() {
+        let which = (round + turn) % players.len();
+        let seconds = timed(load, players[which], times, &mut answers[which]);
+        let nanoseconds = seconds * 1e9 / (times * load.counted) as f64;
+        best[which] = best[which].min(nanoseconds);
+    }
+    for other in &answers[1..] {
+        assert!(*other == answers[0], "{}: answers differ", load.name);
+    }
+}
+
+/// The best nanoseconds of each player for one of what a load counts. A round goes through all
+/// loads, so that a slow while of the machine spoils a round and not a load.
+fn measured(loads: &[Load], players: &[Player]) -> Vec<Vec<f64>> {
+    let mut best = vec![vec![f64::INFINITY; players.len()]; loads.len()];
+    for round in 0..ROUNDS {
+        for (load, best) in loads.iter().zip(&mut best) {
+            play_a_round(load, players, round, best);
+        }
+    }
+    best
+}
+
+/// The archive, the independent program, and the old archive if there is one.
+fn players() -> Vec<Player> {
+    let both: [Player; 2] = [archive::play, trace::play];
+    both.into_iter().chain(OLD_PLAYER).collect()
+}
+
+// Printing.
+
+/// A line for each load: nanoseconds of each player, and the archive's over those of the others.
+/// Gives the archive's of the last.
+fn table(title: &str, counted: &str, loads: &[Load]) -> f64 {
+    print!("{title:<32}{counted:>9}{:>11}", "archive");
+    if OLD_PLAYER.is_some() {
+        print!("{:>12}{:>9}", "old", "/ old");
+    }
+    println!("{:>14}{:>10}", "independent", "/ indep.");
+    let times = measured(loads, &players());
+    for (load, times) in loads.iter().zip(&times) {
+        let (archive, independent) = (times[0], times[1]);
+        print!("{:<32}{:>9}{archive:>8.1} ns", load.name, load.counted);
+        if let Some(old) = times.get(2) {
+            print!("{old:>9.1} ns{:>9.3}", archive / old);
+        }
+        println!("{independent:>11.1} ns{:>10.3}", archive / independent);
+    }
+    times[loads.len() - 1][0]
+}
+
+// Mixed traces.
+
+fn mixed() {
+    let (short, middle, long) = (Random::new(1), Random::new(3), Random::new(2));
+    let loads = [
+        load("short advances", &scenes(short, 1, 2_000, 5_000)),
+        load("middle advances", &middle_advances(middle, 1, 3_000)),
+        load("long advances", &long_advances(long, 1, 300)),
+        load("hostile, in short", &hostile(400)),
+    ];
+    table("mixed calls, each", "calls", &loads);
+    for load in &loads {
+        println!("  {}: {} are advances", load.name, load.advances);
+    }
+}
+
+// Single kinds of calls.
+
+/// How often a kind is repeated in its trace.
+const REPEATED: usize = 5_000;
+
+fn single_kinds() {
+    let load_of = |kind: Kind| Load {
+        counted: REPEATED,
+        ..load(kind.name, &kind.calls(REPEATED))
+    };
+    let loads: Vec<Load> = kinds().into_iter().map(load_of).collect();
+    table("one kind of call, each", "times", &loads);
 }
 
 // The longest advance.
@@ -85,73 +149,68 @@ const MODES: [(&str, u32); 5] = [
     ("external trigger only", 0x0D0B),
 ];
 
+const TICKS: [u32; 3] = [64, 4_096, LONGEST_ADVANCE];
+
 const STARTS: usize = 2_000;
 
 /// 32 channels with I = 64, and over and over a start and an advance. The start is refused while a
 /// cycle runs.
-fn advances_in(mode: u32, ticks: u32) -> Vec<Call> {
-    let write = |offset, value| Call::Write {
-        width: 16,
-        offset,
-        value,
-    };
+fn advances_in(mode: u32, ticks: u32) -> Load {
     let mut calls = vec![
-        write(0x04, mode),
-        write(0x08, 0x4000),
-        write(0x0C, 1),
-        write(0x10, 0x1F00),
+        write_16(0x04, mode),
+        write_16(0x08, 0x4000),
+        write_16(0x0C, 1),
+        write_16(0x10, 0x1F00),
     ];
     for _ in 0..STARTS {
-        calls.extend([write(0x24, 1), Call::Advance { ticks }]);
+        calls.extend([write_16(0x24, 1), Call::Advance { ticks }]);
     }
-    calls
-}
-
-/// Nanoseconds of the archive for a start and an advance of so many ticks.
-fn nanoseconds(mode: u32, ticks: u32) -> f64 {
-    let load = load("advances", &advances_in(mode, ticks));
-    let seconds = (0..ROUNDS).map(|_| timed(&load, archive::play).0);
-    seconds.fold(f64::INFINITY, f64::min) * 1e9 / STARTS as f64
+    Load {
+        counted: STARTS,
+        ..load("advances", &calls)
+    }
 }
 
 fn longest_advances() {
-    println!("archive, a start and an advance, 32 channels, I = 64:");
-    for (name, mode) in MODES {
-        let times = [64, 4_096, LONGEST_ADVANCE].map(|ticks| nanoseconds(mode, ticks));
-        println!(
-            "  {name:<22} 64 ticks {:>6.0} ns, 4,096 ticks {:>6.0} ns, 16,777,216 ticks {:>6.0} ns",
-            times[0], times[1], times[2]
-        );
+    let loads_of = |(_, mode)| TICKS.map(|ticks| advances_in(mode, ticks));
+    let loads = MODES.map(loads_of).into_iter().flatten();
+    let times = measured(&loads.collect::<Vec<Load>>(), &players());
+    let names = ["archive", "independent", "old archive"];
+    for (which, name) in names.iter().enumerate().take(players().len()) {
+        println!("{name}, a start and an advance, 32 channels, I = 64:");
+        for ((mode, _), of_mode) in MODES.iter().zip(times.chunks(TICKS.len())) {
+            println!(
+                "  {mode:<22} 64 ticks {:>6.0} ns, 4,096 ticks {:>6.0} ns, 16,777,216 ticks {:>6.0} ns",
+                of_mode[0][which], of_mode[1][which], of_mode[2][which]
+            );
+        }
     }
 }
 
+// The whole hostile trace.
+
+/// As many longest advances as 16,777,216 bytes hold: 7 bytes each, after heading and five writes.
+fn whole_hostile() -> Load {
+    let advances = (trace::LONGEST_TRACE - 8 - 5 * 10) / 7;
+    load("hostile, 16 MiB", &hostile(advances))
+}
+
+fn longest_trace() {
+    let whole = [whole_hostile()];
+    let nanoseconds = table("the longest trace, each", "calls", &whole);
+    let seconds = nanoseconds / 1e9 * whole[0].calls as f64;
+    println!(
+        "  {} bytes, {seconds:.2} s in the archive",
+        whole[0].trace.len()
+    );
+}
+
 fn main() {
-    compare(&load(
-        "short advances",
-        &scenes(Random::new(1), 1, 2_000, 5_000),
-    ));
-    compare(&load(
-        "long advances",
-        &long_advances(Random::new(2), 1, 300),
-    ));
+    mixed();
+    println!();
+    single_kinds();
+    println!();
     longest_advances();
-    let short = load("hostile, in short", &hostile(40));
-    let seconds = compare(&short);
-    let whole = whole_hostile();
-    let expected = seconds * whole.calls as f64 / short.calls as f64;
-    println!(
-        "{}: {} calls, {} bytes",
-        whole.name,
-        whole.calls,
-        whole.trace.len()
-    );
-    if expected > PATIENCE {
-        println!("  archive alone, not run: about {expected:.0} s by the short one");
-        return;
-    }
-    let (seconds, _) = timed(&whole, archive::play);
-    println!(
-        "  archive alone: {seconds:.2} s, {:.0} calls/s",
-        whole.calls as f64 / seconds
-    );
+    println!();
+    longest_trace();
 }

@@ -6,7 +6,8 @@ use Prim.Native.Nat.{ℕ, _/_, _%_, _^_, _<_}
 use native.Mathlib.Nat.{mod-eq-of-lt}
 use native.Mathlib.Omega.{arith}
 use Rattle.analog.specs.Answers.{question, firstNo}
-use Rattle.pmc330_model.specs.Map.{Register, classOf, isMapped, isReadable}
+use lib.ListN.{set}
+use Rattle.pmc330_model.specs.Map.{Register, unmapped, interrupt, control, prescaler, timer, channels, startConvert, newData, missedData, gain, mailbox, ifMailbox, classOf, isMapped, isReadable}
 use Rattle.pmc330_model.specs.Words.{readWord, readBytes, heldWord, writtenWord, withWord, gainsWith, isRelease, isStop, isStart}
 use Rattle.pmc330_model.specs.Calls.{read, write}
 use Rattle.pmc330_model.specs.Questions.{isWidth, isAligned, resultingWord, writeQuestions, callQuestions, readQuestions}
@@ -26,6 +27,34 @@ met-width width offset register none = go (isWidth width) none
     go : (t : Bool) → cond t (firstNo (question 2 (isAligned width offset) ∷ question 3 (isMapped register) ∷ question 5 (isReadable register) ∷ [])) 1 ≡ 0 → t ≡ true
     go true e = refl
     go false e = absurd (omega arith)
+
+-- a read's counts are those of the board after it
+abbrev withUnread : Board → List ℕ → Board
+withUnread b unread =
+    record {
+      range = b .range;
+      inputs = b .inputs;
+      gains = b .gains;
+      codes = b .codes;
+      unread = unread;
+      pending = b .pending;
+      registers = b .registers;
+      held = b .held;
+      cycle = b .cycle;
+    }
+
+pub read-counts : (register : Register) (b : Board) → withUnread b (ifMailbox register (λ slot. set (b .unread) slot 0) (b .unread)) ≡ afterRead register b
+read-counts unmapped b = refl
+read-counts interrupt b = refl
+read-counts control b = refl
+read-counts prescaler b = refl
+read-counts timer b = refl
+read-counts channels b = refl
+read-counts startConvert b = refl
+read-counts (newData n) b = refl
+read-counts (missedData n) b = refl
+read-counts (gain n) b = refl
+read-counts (mailbox n) b = refl
 
 module _ (b : Board) (width offset class : ℕ) (is : registerOf class ≡ classOf offset) where
   pub read-number-is : firstNo (readQuestions width offset (registerOf class)) ≡ firstNo (questionsOf b (read width offset))

@@ -2,15 +2,15 @@
 use mathlib.Core.Bool.{Bool, true, false, _&&_}
 use mathlib.Core.List.{List, [], _∷_}
 use mathlib.Core.Path.{_≡_, refl, sym, ap, subst, _∙_}
-use Prim.Native.Nat.{ℕ, zero, suc, _+_, _-_, _*_, _/_, _%_, _≤_, _<_}
+use Prim.Native.Nat.{ℕ, zero, suc, _+_, _-_, _/_, _%_, _≤_, _<_}
 use native.Mathlib.Nat.{add-zero, zero-add, add-suc, suc-add, le-of-suc-le-suc}
 use native.Mathlib.Omega.{arith}
 use lib.Dec.{T, eqb, ltb, eqb→eq}
 use lib.ListN.{length, getD}
 use borrow.Author.Tests.{lt-ltb, le-ltb}
-use Rattle.pmc330_model.specs.Map.{Register, unmapped, interrupt, control, prescaler, timer, channels, startConvert, newData, missedData, gain, mailbox, lowWords, wordAt, classOf}
+use Rattle.pmc330_model.specs.Map.{Register, unmapped, interrupt, control, prescaler, timer, channels, startConvert, newData, missedData, gain, mailbox, wordAt, classOf}
 use Rattle.pmc330_model.proofs.Reading.{Placed, placed}
-use Rattle.pmc330.specs.Classes.{lowClasses, registerOf}
+use Rattle.pmc330.specs.Classes.{registerOf}
 
 -- the class of a register
 abbrev classNumber : Register → ℕ

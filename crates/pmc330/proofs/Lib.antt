@@ -1,10 +1,14 @@
 pub mod Classes
 pub mod WidthLaws
 pub mod CycleLaws
+pub mod PlanLaws
 pub mod TimeLaws
+pub mod TurnLaws
 pub mod SpanLaws
 pub mod QuestionLaws
 pub mod WordLaws
+pub mod HeldLaws
 pub mod ReplyLaws
 pub mod StartLaws
 pub mod AccessLaws
+pub mod LentLaws

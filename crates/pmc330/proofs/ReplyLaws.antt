@@ -9,9 +9,8 @@ use lib.IntN.{ℤ}
 use lib.ListN.{getD}
 use borrow.Author.Tests.{eq-eqb, ne-eqb, le-leb, lt-leb, lt-ltb, le-ltb}
 use Rattle.analog.specs.Answers.{firstNo, answered}
-use Rattle.analog.specs.declared.Answer.{Answer}
 use Rattle.analog.specs.declared.Answer.the-variants.{Accepted, Refused}
-use Rattle.pmc330_model.specs.Map.{Register, unmapped, gain, mailbox, ifMailbox}
+use Rattle.pmc330_model.specs.Map.{unmapped, gain, mailbox, ifMailbox}
 use Rattle.pmc330_model.specs.Calls.{Call, advance}
 use Rattle.pmc330_model.specs.Questions.{callQuestions, inputQuestions}
 use Rattle.pmc330_model.specs.Board.{questionsOf, afterCall, valueOfCall, boardCall}

@@ -1,9 +1,9 @@
 -- A jump of the code is the jump of the board that its parts make.
-use mathlib.Core.Bool.{Bool, true, false, cond, _&&_}
+use mathlib.Core.Bool.{Bool, true, false, cond, _&&_, _||_}
 use mathlib.Core.List.{List}
 use mathlib.Core.Logic.{_⊎_, inl, inr, ⊎-elim}
 use mathlib.Core.Path.{_≡_, refl, sym, ap, ap₂, subst, _∙_}
-use Prim.Native.Nat.{ℕ, zero, suc, _+_, _-_, _*_, _/_, _≤_, _<_, min}
+use Prim.Native.Nat.{ℕ, zero, suc, _+_, _-_, _≤_, _<_}
 use native.Mathlib.Nat.{zero-sub}
 use native.Mathlib.Omega.{arith}
 use lib.Dec.{eqb}
@@ -14,11 +14,11 @@ use Rattle.pmc330_model.specs.Board.{idleCycle, withCycle, stored, begun, elaps
 use Rattle.pmc330_model.specs.declared.Registers.{Registers}
 use Rattle.pmc330_model.specs.declared.Cycle.{Cycle}
 use Rattle.pmc330_model.specs.declared.Board.{Board}
-use Rattle.pmc330_model.proofs.Cases.{same-or-not, and-right}
+use Rattle.pmc330_model.proofs.Cases.{same-or-not, and-right, never}
 use Rattle.pmc330_model.specs.Jumps.{elapsedBy, jumped}
 use Rattle.pmc330_model.proofs.Jumps.{Within, jump-board, jump-stores, idle-board, idle-stores, stores-most}
 use Rattle.pmc330_model.proofs.Theorems.{advanced-add, stores-add}
-use Rattle.pmc330.specs.Steps.{boardOf, begunScan, storedScan, storedCodes, storedUnread, stepTo, SameFlags, SameMoving}
+use Rattle.pmc330.specs.Steps.{boardOf, begunScan, storedScan, storedCodes, storedUnread, stepTo, Unmoved, SameFlags}
 use Rattle.pmc330.specs.declared.cycle.Scan.{Scan}
 
 module _ (range : ℕ) (r : Registers) (gains : List ℕ) (inputs : List ℤ) where
@@ -32,33 +32,60 @@ module _ (range : ℕ) (r : Registers) (gains : List ℕ) (inputs : List ℤ) wh
   begun-part false codes unread s = refl
 
   jump-parts :
-      (due begins : Bool) (codes unread : List ℕ) (s : Scan)
+      (changed due begins : Bool) (codes unread : List ℕ) (s : Scan)
       → whole (cond due (storedCodes r s codes) codes) (cond due (storedUnread s unread) unread)
-      (cond (begins && cond due (storedScan r s) s .cycle .running) (begunScan range r gains inputs (cond due (storedScan r s) s)) (cond due (storedScan r s) s))
+      (cond (begins && cond due (storedScan changed r s) s .cycle .running) (begunScan range r gains inputs (cond due (storedScan changed r s) s)) (cond due (storedScan changed r s) s))
       ≡ begunIfDue begins (storedIfDue due (whole codes unread s))
   unfolding stored
-  jump-parts true begins codes unread s =
-      begun-part (begins && storedScan r s .cycle .running) (storedCodes r s codes) (storedUnread s unread) (storedScan r s)
-  jump-parts false begins codes unread s = begun-part (begins && s .cycle .running) codes unread s
+  jump-parts changed true begins codes unread s =
+      begun-part (begins && storedScan changed r s .cycle .running) (storedCodes r s codes) (storedUnread s unread) (storedScan changed r s)
+  jump-parts changed false begins codes unread s = begun-part (begins && s .cycle .running) codes unread s
 
   -- what the code's steps give, put together
   pub jump-is :
       (n : ℕ) (codes unread : List ℕ) (s : Scan) (cycle : Cycle) (mid last : Scan) (codes′ unread′ : List ℕ)
       → cycle ≡ elapsedBy n (s .cycle)
-      → mid ≡ cond (eqb (s .cycle .lag) n) (storedScan r (record { pending = s .pending; held = s .held; cycle = cycle })) (record { pending = s .pending; held = s .held; cycle = cycle })
-      → codes′ ≡ cond (eqb (s .cycle .lag) n) (storedCodes r (record { pending = s .pending; held = s .held; cycle = cycle }) codes) codes
-      → unread′ ≡ cond (eqb (s .cycle .lag) n) (storedUnread (record { pending = s .pending; held = s .held; cycle = cycle }) unread) unread
+      → mid ≡ cond (eqb (s .cycle .lag) n) (storedScan (mid .changed) r (record { changed = s .changed; pending = s .pending; held = s .held; cycle = cycle })) (record { changed = s .changed; pending = s .pending; held = s .held; cycle = cycle })
+      → codes′ ≡ cond (eqb (s .cycle .lag) n) (storedCodes r (record { changed = s .changed; pending = s .pending; held = s .held; cycle = cycle }) codes) codes
+      → unread′ ≡ cond (eqb (s .cycle .lag) n) (storedUnread (record { changed = s .changed; pending = s .pending; held = s .held; cycle = cycle }) unread) unread
       → last ≡ cond (eqb (s .cycle .lead) n && mid .cycle .running) (begunScan range r gains inputs mid) mid
       → whole codes′ unread′ last ≡ jumped n (whole codes unread s)
   jump-is n codes unread s cycle mid last codes′ unread′ e-cycle e-mid e-codes e-unread e-last =
-      let p : Cycle → Scan = λ c. record { pending = s .pending; held = s .held; cycle = c } in
+      let p : Cycle → Scan = λ c. record { changed = s .changed; pending = s .pending; held = s .held; cycle = c } in
+      let f : Bool = mid .changed in
       let due : Bool = eqb (s .cycle .lag) n in
       let begins : Bool = eqb (s .cycle .lead) n in
       ap (whole codes′ unread′) e-last
       ∙ ap (λ (m : Scan). whole codes′ unread′ (cond (begins && m .cycle .running) (begunScan range r gains inputs m) m)) e-mid
-      ∙ ap₂ (λ (cs us : List ℕ). whole cs us (cond (begins && cond due (storedScan r (p cycle)) (p cycle) .cycle .running) (begunScan range r gains inputs (cond due (storedScan r (p cycle)) (p cycle))) (cond due (storedScan r (p cycle)) (p cycle)))) e-codes e-unread
-      ∙ jump-parts due begins codes unread (p cycle)
+      ∙ ap₂ (λ (cs us : List ℕ). whole cs us (cond (begins && cond due (storedScan f r (p cycle)) (p cycle) .cycle .running) (begunScan range r gains inputs (cond due (storedScan f r (p cycle)) (p cycle))) (cond due (storedScan f r (p cycle)) (p cycle)))) e-codes e-unread
+      ∙ jump-parts f due begins codes unread (p cycle)
       ∙ ap (λ (c : Cycle). begunIfDue begins (storedIfDue due (whole codes unread (p c)))) e-cycle
+
+-- a beginning keeps the flag
+pub begun-flag :
+    (range : ℕ) (r : Registers) (gains : List ℕ) (inputs : List ℤ) (t : Bool) (s : Scan)
+    → cond t (begunScan range r gains inputs s) s .changed ≡ s .changed
+begun-flag range r gains inputs true s = refl
+begun-flag range r gains inputs false s = refl
+
+-- neither this store has changed anything nor one before it
+pub no-change :
+    {codes codes′ unread unread′ : List ℕ} (before changes : Bool) → (before || changes) ≡ false
+    → (changes ≡ false → Unmoved false codes codes′ unread unread′) → Unmoved before codes codes′ unread unread′
+no-change true changes e same = never true refl e
+no-change false changes e same = same e
+
+-- nothing has moved in two steps, one after the other
+pub unmoved-then :
+    {flag : Bool} {codes codes′ codes″ unread unread′ unread″ : List ℕ} (mid : Bool) → (mid ≡ false → Unmoved flag codes codes′ unread unread′)
+    → Unmoved mid codes′ codes″ unread′ unread″ → Unmoved flag codes codes″ unread unread″
+unmoved-then mid first later =
+    let earlier = first (later .before) in
+    record {
+      before = earlier .before;
+      sameCodes = later .sameCodes ∙ earlier .sameCodes;
+      sameUnread = later .sameUnread ∙ earlier .sameUnread;
+    }
 
 -- ---- the step to the next event
 
@@ -282,7 +309,7 @@ joined-fixed a b c p q =
       registers = p .registers ∙ q .registers;
     }
 
-ticked-fixed : (b : Board) → Fixed (ticked b) b
+pub ticked-fixed : (b : Board) → Fixed (ticked b) b
 unfolding ticked
 ticked-fixed b = go (b .cycle .running)
   where
@@ -298,18 +325,3 @@ pub advanced-fixed : (n : ℕ) (b : Board) → Fixed (advanced n b) b
 unfolding advanced
 advanced-fixed zero b = same-fixed b
 advanced-fixed (suc n) b = joined-fixed (advanced n (ticked b)) (ticked b) b (advanced-fixed n (ticked b)) (ticked-fixed b)
-
-pub board-same : (a b : Board) → Fixed a b → SameMoving a b → a ≡ b
-board-same a b fixed moving =
-    λ i.
-    record {
-      range = fixed .range i;
-      inputs = fixed .inputs i;
-      gains = fixed .gains i;
-      codes = moving .codes i;
-      unread = moving .unread i;
-      pending = moving .pending i;
-      registers = fixed .registers i;
-      held = moving .held i;
-      cycle = moving .cycle i;
-    }

@@ -143,53 +143,42 @@ mailbox-class class low high =
 
 -- ---- a word of digits to a base, joined in a loop
 
--- before turn i: the word of the digits so far, and what the next one counts
-pub record Joining (base : ℕ) (digit : ℕ → ℕ) (count word weight i : ℕ) : Type 0 where
+-- before turn i: the word of the digits so far, and what the next one counts. No digit is above `most`, so the word stays small
+pub record Joining (base most : ℕ) (digit : ℕ → ℕ) (count word weight i : ℕ) : Type 0 where
   pub within : i ≤ count
   pub joins : word ≡ joined base digit i
   pub counts : weight ≡ base ^ i
+  pub small : word ≤ most * weight
 
-module _ (base : ℕ) (digit : ℕ → ℕ) (count : ℕ) where
-  pub joining-start : Joining base digit count 0 1 0
+module _ (base most : ℕ) (digit : ℕ → ℕ) (count : ℕ) where
+  pub joining-start : Joining base most digit count 0 1 0
   unfolding joined
-  joining-start = record { within = omega arith; joins = refl; counts = sym (pow-zero base) }
+  joining-start = record { within = omega arith; joins = refl; counts = sym (pow-zero base); small = omega arith }
 
-  pub joining-turn :
-      (word weight i : ℕ) → i < count → Joining base digit count word weight i
-      → Joining base digit count (word + digit i * weight) (weight * base) (i + 1)
-  unfolding joined
-  joining-turn word weight i h j =
-      record {
-        within = omega arith;
-        joins = rw (add-one i, j .joins, j .counts);
-        counts = rw (add-one i, pow-suc base i, j .counts);
-      }
-
-  pub joining-end : (word weight i : ℕ) → count ≤ i → Joining base digit count word weight i → word ≡ joined base digit count
+  pub joining-end : (word weight i : ℕ) → count ≤ i → Joining base most digit count word weight i → word ≡ joined base digit count
   joining-end word weight i h j =
       let e : i ≡ count = omega arith in
       j .joins ∙ rw e
 
-  pub joining-weight : (word weight i : ℕ) → 0 < base → Joining base digit count word weight i → weight ≤ base ^ count
+  pub joining-weight : (word weight i : ℕ) → 0 < base → Joining base most digit count word weight i → weight ≤ base ^ count
   joining-weight word weight i some j = rw (j .counts) (pow-le-pow-right some (j .within))
 
-  -- the word stays small
-  module _ (most : ℕ) (two : 2 ≤ base) (small : (k : ℕ) → digit k ≤ most) where
-    joined-most : (n : ℕ) → joined base digit n ≤ most * base ^ n
+  module _ (two : 2 ≤ base) (word weight i : ℕ) (h : i < count) (low : digit i ≤ most) (j : Joining base most digit count word weight i) where
+    pub joining-turn : Joining base most digit count (word + digit i * weight) (weight * base) (i + 1)
     unfolding joined
-    joined-most zero = omega arith
-    joined-most (suc n) =
-        let last : digit n * base ^ n ≤ most * base ^ n = mul-le-mul-right (base ^ n) (small n) in
-        let twice : most * base ^ n * 2 ≤ most * base ^ n * base = mul-le-mul-left (most * base ^ n) two in
-        rw (pow-suc base n, ← mul-assoc most (base ^ n) base) (omega (arith, joined-most n))
+    joining-turn =
+        let last : digit i * weight ≤ most * weight = mul-le-mul-right weight low in
+        let twice : most * weight * 2 ≤ most * weight * base = mul-le-mul-left (most * weight) two in
+        record {
+          within = omega arith;
+          joins = rw (add-one i, j .joins, j .counts);
+          counts = rw (add-one i, pow-suc base i, j .counts);
+          small = rw (← mul-assoc most weight base) (omega (arith, j .small));
+        }
 
-    pub joining-small :
-        (word weight i : ℕ) → i < count → Joining base digit count word weight i
-        → word + digit i * weight ≤ most * base ^ count
-    joining-small word weight i h j =
-        let next : Joining base digit count (word + digit i * weight) (weight * base) (i + 1) = joining-turn word weight i h j in
-        let below : base ^ (i + 1) ≤ base ^ count = pow-le-pow-right (omega arith) (next .within) in
-        rw (next .joins) (le-trans (joined-most (i + 1)) (mul-le-mul-left most below))
+    pub joining-fits : word + digit i * weight ≤ most * base ^ count
+    joining-fits =
+        le-trans (joining-turn .small) (mul-le-mul-left most (joining-weight _ _ _ (omega arith) joining-turn))
 
 -- ---- gains that a loop stores
 

@@ -1,17 +1,30 @@
 // The steps of a cycle: a conversion begins, and is stored.
-ghost use mathlib.Core.Bool.{_&&_, _||_, not, cond};
+ghost use mathlib.Core.Bool.{_&&_, not, cond};
 ghost use mathlib.Core.Path.{_≡_};
-ghost use Prim.Native.Nat.{_+_, _%_, _<_, _≤_, min};
-ghost use lib.ListN.{getD, set};
-ghost use Rattle.pmc330_model.specs.Schedule.{isSingle, voltageAt, codeAt, formattedBy};
-ghost use Rattle.pmc330_model.specs.Board.{leadAfter, begunCycle, storedCycle, idleCycle, freshCycle};
-ghost use Rattle.pmc330.specs.Steps.{begunScan, storedScan, slotAt};
+ghost use Prim.Native.Nat.{_+_, _%_, _<_, _≤_};
+ghost use Rattle.pmc330_model.specs.Schedule.{isSingle, voltageAt, codeAt};
+ghost use Rattle.pmc330_model.specs.Board.{leadAfter, idleCycle};
+ghost use Rattle.pmc330.specs.Steps.{Planned, slotBy, begunBy, storedBy};
 use crate::fields;
 use pmc330_model::Cycle;
 use pmc330_model::Registers;
 
+// What the registers say of a running cycle. Nothing of it changes while time passes, so a run from event to event works it out once.
+pub struct Plan {
+    pub start: u8,
+    // conversions in a pass
+    pub length: u32,
+    // ticks from a beginning to the next one, within a pass and at its end
+    pub step: u32,
+    pub last: u32,
+    pub single: bool,
+    pub differential: bool,
+}
+
 // What changes of a board as time passes, but for its mailboxes.
 pub struct Scan {
+    // a store has changed a mailbox or its count
+    pub changed: bool,
     pub pending: bool,
     pub held: u16,
     pub cycle: Cycle,
@@ -32,7 +45,7 @@ pub(crate) fn idle_cycle() -> Cycle
     }
 }
 
-// The end of a single pass.
+// The end of a single pass, by the registers.
 fn is_last(r: Registers, ends: bool) -> bool
     ensures { λ t. ⌜ t ≡ (isSingle r && ends) ⌝ }
 {
@@ -43,7 +56,7 @@ fn is_last(r: Registers, ends: bool) -> bool
 }
 
 // The ticks from a beginning to the next one.
-pub(crate) fn lead_after(r: Registers, ends: bool) -> u32
+fn lead_after(r: Registers, ends: bool) -> u32
     ensures { λ n. ⌜ n ≡ leadAfter r ends ⌝ }
 {
     if !fields::is_timed(r) {
@@ -61,18 +74,45 @@ pub(crate) fn lead_after(r: Registers, ends: bool) -> u32
     120
 }
 
-// The slot of the conversion at a place of its pass.
-fn slot_at(r: Registers, index: u8, odd: bool) -> u8
-    ensures { λ s. ⌜ s ≡ slotAt r index odd ⌝ }
+pub(crate) fn plan_of(r: Registers) -> Plan
+    ensures { λ p. ⌜ Planned r p ⌝ }
 {
-    let channel = (r.start as u32) + (index as u32);
-    if !fields::is_differential(r) {
+    let length = fields::pass_length(r);
+    let step = lead_after(r, false);
+    let last = lead_after(r, true);
+    let single = fields::is_single(r);
+    let differential = fields::is_differential(r);
+    Plan {
+        start: r.start,
+        length,
+        step,
+        last,
+        single,
+        differential,
+    }
+}
+
+// The slot of the conversion at a place of its pass.
+fn slot_at(p: Plan, index: u8, odd: bool) -> u8
+    ensures { λ s. ⌜ s ≡ slotBy p index odd ⌝ }
+{
+    let channel = (p.start as u32) + (index as u32);
+    if !p.differential {
         return (channel % 32) as u8;
     }
     if odd {
         return ((channel + 16) % 32) as u8;
     }
     (channel % 32) as u8
+}
+
+fn lead_of(p: Plan, ends: bool) -> u32
+    ensures { λ n. ⌜ n ≡ cond ends (p .last) (p .step) ⌝ }
+{
+    if ends {
+        return p.last;
+    }
+    p.step
 }
 
 fn place_after(place: u32, ends: bool) -> u8
@@ -94,13 +134,14 @@ fn parity_after(odd: bool, ends: bool) -> bool
 }
 
 // The cycle after the next conversion has begun.
-pub(crate) fn begun_cycle(r: Registers, c: Cycle) -> Cycle
-    ensures { λ n. ⌜ n ≡ begunCycle r c ⌝ }
+pub(crate) fn begun_cycle(p: Plan, c: Cycle) -> Cycle
+    requires { ⌜ p .length ≤ 256 ⌝ }
+    ensures { λ n. ⌜ n ≡ begunBy p c ⌝ }
 {
     let place = (c.index as u32) + 1;
-    let ends = fields::pass_length(r) <= place;
-    let lead = lead_after(r, ends);
-    let slot = slot_at(r, c.index, c.odd);
+    let ends = p.length <= place;
+    let lead = lead_of(p, ends);
+    let slot = slot_at(p, c.index, c.odd);
     let index = place_after(place, ends);
     let odd = parity_after(c.odd, ends);
     Cycle {
@@ -115,11 +156,21 @@ pub(crate) fn begun_cycle(r: Registers, c: Cycle) -> Cycle
     }
 }
 
-// The cycle after its conversion in progress is stored.
-pub(crate) fn stored_cycle(r: Registers, c: Cycle) -> Cycle
-    ensures { λ n. ⌜ n ≡ storedCycle r c ⌝ }
+// The end of a single pass, by the plan.
+fn is_over(p: Plan, ends: bool) -> bool
+    ensures { λ t. ⌜ t ≡ (p .single && ends) ⌝ }
 {
-    if is_last(r, c.ends) {
+    if p.single {
+        return ends;
+    }
+    false
+}
+
+// The cycle after its conversion in progress is stored.
+pub(crate) fn stored_cycle(p: Plan, c: Cycle) -> Cycle
+    ensures { λ n. ⌜ n ≡ storedBy p c ⌝ }
+{
+    if is_over(p, c.ends) {
         return idle_cycle();
     }
     Cycle {
@@ -156,17 +207,16 @@ fn code_at(range: u8, r: Registers, gains: &[u8; 32], inputs: &[i32; 32], channe
     analog::code(range as u32, fields::wide(gain), voltage)
 }
 
-// The next conversion begins.
-pub(crate) fn begin(range: u8, r: Registers, gains: &[u8; 32], inputs: &[i32; 32], s: Scan) -> Scan
-    ensures { λ n. ⌜ n ≡ begunScan range r (now (gains .entry)) (now (inputs .entry)) s ⌝ }
+// The straight code that the conversion at a place of its pass takes.
+pub(crate) fn taken_code(
+    range: u8,
+    r: Registers,
+    gains: &[u8; 32],
+    inputs: &[i32; 32],
+    index: u8,
+) -> u16
+    ensures { λ n. ⌜ n ≡ codeAt range r (now (gains .entry)) (now (inputs .entry)) ((r .start + index) % 32) ⌝ }
 {
-    let c = s.cycle;
-    let channel = (((r.start as u32) + (c.index as u32)) % 32) as usize;
-    let held = code_at(range, r, gains, inputs, channel);
-    let cycle = begun_cycle(r, c);
-    Scan {
-        pending: s.pending,
-        held,
-        cycle,
-    }
+    let channel = (((r.start as u32) + (index as u32)) % 32) as usize;
+    code_at(range, r, gains, inputs, channel)
 }

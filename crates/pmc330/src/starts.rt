@@ -1,53 +1,48 @@
 // A cycle starts, by Start Convert or by a trigger.
-ghost use mathlib.Core.Bool.{_&&_, cond, not};
+ghost use mathlib.Core.Bool.{_&&_, cond};
+ghost use mathlib.Core.List.{List};
 ghost use mathlib.Core.Path.{_≡_};
+ghost use Prim.Native.Nat.{ℕ, _+_, _%_, min};
 ghost use lib.Dec.{eqb};
-ghost use Rattle.pmc330_model.specs.Schedule.{interval, isUniform, isTimed, isTriggerOnly};
+ghost use lib.ListN.{getD, set};
+ghost use Rattle.pmc330_model.specs.Schedule.{interval, isUniform, isTimed, isTriggerOnly, formattedBy};
 ghost use Rattle.pmc330_model.specs.Questions.{hasChannels, hasInterval};
-ghost use Rattle.pmc330_model.specs.Board.{stored, begun, freshCycle, started, triggerTaken, triggered};
+ghost use Rattle.pmc330_model.specs.Board.{freshCycle, started, triggerTaken, triggered};
+ghost use Rattle.pmc330.specs.Steps.{boardWith, begunCore, storedCore};
 use crate::cycle;
-use crate::cycle::Scan;
 use crate::fields;
+use crate::held::Core;
 use crate::questions;
 use crate::stores;
-use pmc330_model::Board;
 use pmc330_model::Cycle;
 use pmc330_model::Registers;
 
-// The next conversion of a board begins.
-fn begun_board(b: Board) -> Board
-    ensures { λ n. ⌜ n ≡ begun b ⌝ }
+// The next conversion begins.
+fn begun(core: Core, inputs: &[i32; 32], gains: &[u8; 32]) -> Core
+    ensures { λ n. ⌜ n ≡ begunCore core (now (inputs .entry)) (now (gains .entry)) ⌝ }
 {
-    let r = b.registers;
-    let gains = b.gains;
-    let inputs = b.inputs;
-    let cycle = b.cycle;
-    let s = Scan {
-        pending: b.pending,
-        held: b.held,
-        cycle,
-    };
-    let begun = cycle::begin(b.range, r, &gains, &inputs, s);
-    let after = begun.cycle;
-    let mut next = b;
-    next.held = begun.held;
+    let r = core.registers;
+    let c = core.cycle;
+    let held = cycle::taken_code(core.range, r, gains, inputs, c.index);
+    let p = cycle::plan_of(r);
+    let after = cycle::begun_cycle(p, c);
+    let mut next = core;
+    next.held = held;
     next.cycle = after;
     next
 }
 
 // The code last taken goes into a slot.
-fn stored_board(b: Board, slot: u8, ends: bool) -> Board
-    ensures { λ n. ⌜ n ≡ stored slot ends b ⌝ }
+fn stored(core: Core, codes: &mut [u16; 32], unread: &mut [u8; 32], slot: u8, ends: bool) -> Core
+    ensures core { λ n. ⌜ n ≡ storedCore core ends ⌝ }
+    ensures codes { λ _. ⌜ now (codes .exit) ≡ set (now (codes .entry)) (slot % 32) (formattedBy (core .registers) (core .held)) ⌝ }
+    ensures unread { λ _. ⌜ now (unread .exit) ≡ set (now (unread .entry)) (slot % 32) (min 2 (getD (now (unread .entry)) (slot % 32) 0 + 1)) ⌝ }
 {
-    let r = b.registers;
-    let mut codes = b.codes;
-    let mut unread = b.unread;
-    let code = stores::formatted_by(r, b.held);
-    stores::put(&mut codes, &mut unread, slot, code);
-    let pending = stores::either(b.pending, fields::is_interrupting(r, ends));
-    let mut next = b;
-    next.codes = codes;
-    next.unread = unread;
+    let r = core.registers;
+    let code = stores::formatted_by(r, core.held);
+    stores::put(codes, unread, slot, code);
+    let pending = stores::either(core.pending, fields::is_interrupting(r, ends));
+    let mut next = core;
     next.pending = pending;
     next
 }
@@ -78,80 +73,102 @@ fn fresh_cycle(r: Registers) -> Cycle
     }
 }
 
-// A cycle starts: all New and Missed bits clear.
-pub(crate) fn started_board(b: Board) -> Board
-    ensures { λ n. ⌜ n ≡ started b ⌝ }
+// A cycle starts: all New and Missed bits clear. The codes stay, whatever they are.
+pub(crate) fn started(
+    core: Core,
+    inputs: &[i32; 32],
+    gains: &[u8; 32],
+    unread: &mut [u8; 32],
+) -> Core
+    ensures { λ n. ⌜ ((codes : List ℕ) → boardWith n (now (inputs .entry)) (now (gains .entry)) codes (now (unread .exit)) ≡ started (boardWith core (now (inputs .entry)) (now (gains .entry)) codes (now (unread .entry)))) ⌝ }
 {
-    let r = b.registers;
+    let r = core.registers;
     let cycle = fresh_cycle(r);
-    let unread = [0u8; 32];
-    let mut next = b;
-    next.unread = unread;
+    *unread = [0u8; 32];
+    let mut next = core;
     next.cycle = cycle;
     if fields::is_burst(r) {
-        return begun_board(next);
+        return begun(next, inputs, gains);
     }
     next
 }
 
 // A trigger that is taken: its store first, then its code.
-fn taken_board(b: Board) -> Board
-    ensures { λ n. ⌜ n ≡ triggerTaken b ⌝ }
+fn taken(
+    core: Core,
+    inputs: &[i32; 32],
+    gains: &[u8; 32],
+    codes: &mut [u16; 32],
+    unread: &mut [u8; 32],
+) -> Core
+    ensures { λ n. ⌜ boardWith n (now (inputs .entry)) (now (gains .entry)) (now (codes .exit)) (now (unread .exit)) ≡ triggerTaken (boardWith core (now (inputs .entry)) (now (gains .entry)) (now (codes .entry)) (now (unread .entry))) ⌝ }
 {
-    let c = b.cycle;
+    let c = core.cycle;
     if c.waiting {
-        let s = stored_board(b, c.slot, c.ends);
-        return begun_board(s);
+        let s = stored(core, codes, unread, c.slot, c.ends);
+        return begun(s, inputs, gains);
     }
-    begun_board(b)
+    begun(core, inputs, gains)
 }
 
 // A trigger on a running board.
-fn triggered_running(b: Board) -> Board
-    ensures { λ n. ⌜ n ≡ cond (isTriggerOnly (b .registers) && eqb (b .cycle .lag) 0) (triggerTaken b) b ⌝ }
+fn triggered_running(
+    core: Core,
+    inputs: &[i32; 32],
+    gains: &[u8; 32],
+    codes: &mut [u16; 32],
+    unread: &mut [u8; 32],
+) -> Core
+    ensures { λ n. ⌜ boardWith n (now (inputs .entry)) (now (gains .entry)) (now (codes .exit)) (now (unread .exit)) ≡ cond (isTriggerOnly (core .registers) && eqb (core .cycle .lag) 0) (triggerTaken (boardWith core (now (inputs .entry)) (now (gains .entry)) (now (codes .entry)) (now (unread .entry)))) (boardWith core (now (inputs .entry)) (now (gains .entry)) (now (codes .entry)) (now (unread .entry))) ⌝ }
 {
-    let r = b.registers;
+    let r = core.registers;
     if !fields::is_trigger_only(r) {
-        return b;
+        return core;
     }
-    let c = b.cycle;
+    let c = core.cycle;
     let lag = c.lag;
     if lag == 0 {
-        return taken_board(b);
+        return taken(core, inputs, gains, codes, unread);
     }
-    b
+    core
 }
 
 // A trigger on an idle board.
-fn triggered_idle(b: Board) -> Board
-    ensures { λ n. ⌜ n ≡ cond (isTimed (b .registers) && hasChannels (b .registers) && hasInterval (b .registers)) (started b) b ⌝ }
+fn triggered_idle(core: Core, inputs: &[i32; 32], gains: &[u8; 32], unread: &mut [u8; 32]) -> Core
+    ensures { λ n. ⌜ ((codes : List ℕ) → boardWith n (now (inputs .entry)) (now (gains .entry)) codes (now (unread .exit)) ≡ cond (isTimed (core .registers) && hasChannels (core .registers) && hasInterval (core .registers)) (started (boardWith core (now (inputs .entry)) (now (gains .entry)) codes (now (unread .entry)))) (boardWith core (now (inputs .entry)) (now (gains .entry)) codes (now (unread .entry)))) ⌝ }
 {
-    let r = b.registers;
+    let r = core.registers;
     if !fields::is_timed(r) {
-        return b;
+        return core;
     }
     if !questions::has_channels(r) {
-        return b;
+        return core;
     }
     if !questions::has_interval(r) {
-        return b;
+        return core;
     }
-    started_board(b)
+    started(core, inputs, gains, unread)
 }
 
 // A trigger: taken, the start of a cycle, or ignored.
-pub(crate) fn triggered_board(b: Board) -> Board
-    ensures { λ n. ⌜ n ≡ triggered b ⌝ }
+pub(crate) fn triggered(
+    core: Core,
+    inputs: &[i32; 32],
+    gains: &[u8; 32],
+    codes: &mut [u16; 32],
+    unread: &mut [u8; 32],
+) -> Core
+    ensures { λ n. ⌜ boardWith n (now (inputs .entry)) (now (gains .entry)) (now (codes .exit)) (now (unread .exit)) ≡ triggered (boardWith core (now (inputs .entry)) (now (gains .entry)) (now (codes .entry)) (now (unread .entry))) ⌝ }
 {
-    let r = b.registers;
+    let r = core.registers;
     let field = fields::trigger_field(r.control);
     if field != 1 {
-        return b;
+        return core;
     }
-    let c = b.cycle;
+    let c = core.cycle;
     let running = c.running;
     if running {
-        return triggered_running(b);
+        return triggered_running(core, inputs, gains, codes, unread);
     }
-    triggered_idle(b)
+    triggered_idle(core, inputs, gains, unread)
 }

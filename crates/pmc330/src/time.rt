@@ -1,22 +1,24 @@
 // Time passes: from event to event, and over whole repeats once the board comes back to itself.
-ghost use mathlib.Core.Bool.{_&&_, cond};
+ghost use mathlib.Core.Bool.{_&&_, cond, true, false};
 ghost use mathlib.Core.Path.{_≡_};
-ghost use Prim.Native.Nat.{ℕ, _+_, _-_, _*_, _/_, _≤_, _<_, min};
+ghost use Prim.Native.Nat.{_+_, _-_, _*_, _/_, _%_, _<_, min};
 ghost use lib.Dec.{eqb};
 ghost use Rattle.pmc330_model.specs.Schedule.{isTimed};
 ghost use Rattle.pmc330_model.specs.Jumps.{elapsedBy, jumped};
-ghost use Rattle.pmc330.specs.Steps.{boardOf, begunScan, stepTo, RunOf, SameFlags, SameMoving};
+ghost use Rattle.pmc330.specs.Steps.{Planned, boardOf, boardWith, begunScan, stepTo, Unmoved, RunOf, SameFlags, SameCore, turnedCore, IgnoresParity};
 use crate::cycle;
+use crate::cycle::Plan;
 use crate::cycle::Scan;
 use crate::fields;
+use crate::held::Core;
 use crate::stores;
-use pmc330_model::Board;
 use pmc330_model::Cycle;
 use pmc330_model::Registers;
 
-// A board after some ticks, with the stores made in them.
+// A board after some ticks, but for its arrays; the stores made in them, and whether one changed a mailbox or its count.
 pub struct Run {
-    pub board: Board,
+    pub changed: bool,
+    pub core: Core,
     pub stores: u32,
 }
 
@@ -61,10 +63,12 @@ fn begin_if_due(
     due: bool,
     range: u8,
     r: Registers,
+    p: Plan,
     gains: &[u8; 32],
     inputs: &[i32; 32],
     s: Scan,
 ) -> Scan
+    requires { ⌜ Planned r p ⌝ }
     ensures { λ n. ⌜ n ≡ cond (due && s .cycle .running) (begunScan range r (now (gains .entry)) (now (inputs .entry)) s) s ⌝ }
 {
     if !due {
@@ -73,13 +77,22 @@ fn begin_if_due(
     if !s.cycle.running {
         return s;
     }
-    cycle::begin(range, r, gains, inputs, s)
+    let c = s.cycle;
+    let held = cycle::taken_code(range, r, gains, inputs, c.index);
+    let cycle = cycle::begun_cycle(p, c);
+    Scan {
+        changed: s.changed,
+        pending: s.pending,
+        held,
+        cycle,
+    }
 }
 
 // n ticks, of which only the last may hold an event: a store, then a beginning.
 fn jump(
     range: u8,
     r: Registers,
+    p: Plan,
     gains: &[u8; 32],
     inputs: &[i32; 32],
     codes: &mut [u16; 32],
@@ -87,17 +100,20 @@ fn jump(
     s: Scan,
     n: u32,
 ) -> Scan
-    ensures { λ t. ⌜ boardOf range r (now (gains .entry)) (now (inputs .entry)) (now (codes .exit)) (now (unread .exit)) t ≡ jumped n (boardOf range r (now (gains .entry)) (now (inputs .entry)) (now (codes .entry)) (now (unread .entry)) s) ⌝ }
+    requires { ⌜ Planned r p ⌝ }
+    ensures board { λ t. ⌜ boardOf range r (now (gains .entry)) (now (inputs .entry)) (now (codes .exit)) (now (unread .exit)) t ≡ jumped n (boardOf range r (now (gains .entry)) (now (inputs .entry)) (now (codes .entry)) (now (unread .entry)) s) ⌝ }
+    ensures unchanged { λ t. ⌜ (t .changed ≡ false → Unmoved (s .changed) (now (codes .entry)) (now (codes .exit)) (now (unread .entry)) (now (unread .exit))) ⌝ }
 {
     let c = s.cycle;
     let cycle = elapsed_by(c, n);
     let passed = Scan {
+        changed: s.changed,
         pending: s.pending,
         held: s.held,
         cycle,
     };
-    let stored = stores::store_if_due(c.lag == n, r, codes, unread, passed);
-    begin_if_due(c.lead == n, range, r, gains, inputs, stored)
+    let stored = stores::store_if_due(c.lag == n, r, p, codes, unread, passed);
+    begin_if_due(c.lead == n, range, r, p, gains, inputs, stored)
 }
 
 // The ticks to the end of a countdown, if one runs, and at most `left`.
@@ -114,20 +130,26 @@ fn nearer(count: u32, left: u32) -> u32
 }
 
 // A running cycle of a mode in time, from event to event.
-fn run_timed(b: Board, ticks: u32) -> Run
-    requires { ⌜ (b .cycle .running ≡ mathlib.Core.Bool.true) × (isTimed (b .registers) ≡ mathlib.Core.Bool.true) ⌝ }
-    ensures { λ r. ⌜ RunOf ticks b (r .board) (r .stores) ⌝ }
+fn run_timed(
+    core: Core,
+    inputs: &[i32; 32],
+    gains: &[u8; 32],
+    codes: &mut [u16; 32],
+    unread: &mut [u8; 32],
+    ticks: u32,
+) -> Run
+    requires { ⌜ (core .cycle .running ≡ true) × (isTimed (core .registers) ≡ true) ⌝ }
+    ensures run { λ n. ⌜ RunOf ticks (boardWith core (now (inputs .entry)) (now (gains .entry)) (now (codes .entry)) (now (unread .entry))) (boardWith (n .core) (now (inputs .entry)) (now (gains .entry)) (now (codes .exit)) (now (unread .exit))) (n .stores) ⌝ }
+    ensures unchanged { λ n. ⌜ (n .changed ≡ false → Unmoved false (now (codes .entry)) (now (codes .exit)) (now (unread .entry)) (now (unread .exit))) ⌝ }
 {
-    let range = b.range;
-    let r = b.registers;
-    let gains = b.gains;
-    let inputs = b.inputs;
-    let mut codes = b.codes;
-    let mut unread = b.unread;
-    let cycle = b.cycle;
+    let range = core.range;
+    let r = core.registers;
+    let cycle = core.cycle;
+    let p = cycle::plan_of(r);
     let mut s = Scan {
-        pending: b.pending,
-        held: b.held,
+        changed: false,
+        pending: core.pending,
+        held: core.held,
         cycle,
     };
     let mut left = ticks;
@@ -136,76 +158,60 @@ fn run_timed(b: Board, ticks: u32) -> Run
         let c = s.cycle;
         let n = nearer(c.lead, nearer(c.lag, left));
         made += bit(c.lag == n);
-        s = jump(range, r, &gains, &inputs, &mut codes, &mut unread, s, n);
+        s = jump(range, r, p, gains, inputs, codes, unread, s, n);
         left -= n;
     }
     let last = s.cycle;
-    let board = Board {
+    let next = Core {
         range,
-        inputs,
-        gains,
-        codes,
-        unread,
-        pending: s.pending,
         registers: r,
+        pending: s.pending,
         held: s.held,
         cycle: last,
     };
     Run {
-        board,
+        changed: s.changed,
+        core: next,
         stores: made,
     }
 }
 
 // Any board, from event to event.
-pub(crate) fn run_any(b: Board, ticks: u32) -> Run
-    ensures { λ r. ⌜ RunOf ticks b (r .board) (r .stores) ⌝ }
+fn run_any(
+    core: Core,
+    inputs: &[i32; 32],
+    gains: &[u8; 32],
+    codes: &mut [u16; 32],
+    unread: &mut [u8; 32],
+    ticks: u32,
+) -> Run
+    ensures run { λ n. ⌜ RunOf ticks (boardWith core (now (inputs .entry)) (now (gains .entry)) (now (codes .entry)) (now (unread .entry))) (boardWith (n .core) (now (inputs .entry)) (now (gains .entry)) (now (codes .exit)) (now (unread .exit))) (n .stores) ⌝ }
+    ensures unchanged { λ n. ⌜ (n .changed ≡ false → Unmoved false (now (codes .entry)) (now (codes .exit)) (now (unread .entry)) (now (unread .exit))) ⌝ }
 {
-    if !b.cycle.running {
+    if !core.cycle.running {
         return Run {
-            board: b,
+            changed: false,
+            core,
             stores: 0,
         };
     }
-    let r = b.registers;
+    let r = core.registers;
     if !fields::is_timed(r) {
-        let c = b.cycle;
+        let c = core.cycle;
         let cycle = elapsed_by(c, ticks);
-        let mut board = b;
-        board.cycle = cycle;
-        return Run { board, stores: 0 };
+        let mut next = core;
+        next.cycle = cycle;
+        return Run {
+            changed: false,
+            core: next,
+            stores: 0,
+        };
     }
-    run_timed(b, ticks)
-}
-
-fn same_codes(a: [u16; 32], b: [u16; 32]) -> bool
-    ensures { λ t. ⌜ (t ≡ mathlib.Core.Bool.true → a ≡ b) ⌝ }
-{
-    let mut i: usize = 0;
-    while i < 32 {
-        if a[i] != b[i] {
-            return false;
-        }
-        i += 1;
-    }
-    true
-}
-
-fn same_counts(a: [u8; 32], b: [u8; 32]) -> bool
-    ensures { λ t. ⌜ (t ≡ mathlib.Core.Bool.true → a ≡ b) ⌝ }
-{
-    let mut i: usize = 0;
-    while i < 32 {
-        if a[i] != b[i] {
-            return false;
-        }
-        i += 1;
-    }
-    true
+    run_timed(core, inputs, gains, codes, unread, ticks)
 }
 
 fn same_flag(a: bool, b: bool) -> bool
-    ensures { λ t. ⌜ (t ≡ mathlib.Core.Bool.true → a ≡ b) ⌝ }
+    ensures { λ t. ⌜ (t ≡ true → a ≡ b) ⌝ }
 {
     if a {
         return b;
@@ -214,7 +220,7 @@ fn same_flag(a: bool, b: bool) -> bool
 }
 
 fn same_flags(a: Cycle, b: Cycle) -> bool
-    ensures { λ t. ⌜ (t ≡ mathlib.Core.Bool.true → SameFlags a b) ⌝ }
+    ensures { λ t. ⌜ (t ≡ true → SameFlags a b) ⌝ }
 {
     if !same_flag(a.running, b.running) {
         return false;
@@ -229,7 +235,7 @@ fn same_flags(a: Cycle, b: Cycle) -> bool
 }
 
 fn same_cycle(a: Cycle, b: Cycle) -> bool
-    ensures { λ t. ⌜ (t ≡ mathlib.Core.Bool.true → a ≡ b) ⌝ }
+    ensures { λ t. ⌜ (t ≡ true → a ≡ b) ⌝ }
 {
     if a.lead != b.lead {
         return false;
@@ -246,9 +252,9 @@ fn same_cycle(a: Cycle, b: Cycle) -> bool
     same_flags(a, b)
 }
 
-// Whether nothing that moves with time differs.
-fn same_moving(a: Board, b: Board) -> bool
-    ensures { λ t. ⌜ (t ≡ mathlib.Core.Bool.true → SameMoving a b) ⌝ }
+// Whether nothing that moves with time differs, but for the mailboxes.
+fn same_core(a: Core, b: Core) -> bool
+    ensures { λ t. ⌜ (t ≡ true → SameCore a b) ⌝ }
 {
     if a.held != b.held {
         return false;
@@ -258,36 +264,89 @@ fn same_moving(a: Board, b: Board) -> bool
     if !same_cycle(before, after) {
         return false;
     }
-    if !same_flag(a.pending, b.pending) {
-        return false;
-    }
-    let counts = a.unread;
-    let counts_after = b.unread;
-    if !same_counts(counts, counts_after) {
-        return false;
-    }
-    let codes = a.codes;
-    let codes_after = b.codes;
-    same_codes(codes, codes_after)
+    same_flag(a.pending, b.pending)
 }
 
-// The ticks of two passes of a continuous mode: after them the place and the parity of the next conversion are back.
+// Whether a run has left everything as it was.
+fn same_moving(changed: bool, after: Core, before: Core) -> bool
+    ensures { λ t. ⌜ (t ≡ true → (changed ≡ false) × SameCore after before) ⌝ }
+{
+    if changed {
+        return false;
+    }
+    same_core(after, before)
+}
+
+// The ticks of a pass of a continuous mode: after them the place of the next conversion is back. 0 in the other modes.
 // Only speed depends on this number.
-fn two_passes(r: Registers) -> u64 {
+fn pass_ticks(r: Registers) -> u32 {
     if fields::is_single(r) {
         return 0;
     }
-    let length = fields::pass_length(r) as u64;
+    let length = fields::pass_length(r);
     if fields::is_uniform(r) {
-        return 2 * (length * (fields::interval_of(r) as u64));
+        return length * fields::interval_of(r);
     }
     if fields::is_burst(r) {
-        return 2 * (120 * length + (fields::burst_delay(r) as u64));
+        return 120 * length + fields::burst_delay(r);
     }
     0
 }
 
-// How many more times a span fits that changes nothing.
+// Whether the parity of the pass has no effect: neither a single mode nor differential.
+fn ignores_parity(r: Registers) -> bool
+    ensures { λ t. ⌜ (t ≡ true → IgnoresParity r) ⌝ }
+{
+    if fields::is_single(r) {
+        return false;
+    }
+    !fields::is_differential(r)
+}
+
+// Whether a run has turned the parity, where it is ignored.
+fn has_turned(ignored: bool, before: Core, after: Core) -> bool
+    ensures { λ t. ⌜ (t ≡ true → ignored ≡ true) ⌝ }
+{
+    if !ignored {
+        return false;
+    }
+    !same_flag(before.cycle.odd, after.cycle.odd)
+}
+
+// The parity of the pass turned, if the flag says so.
+fn turned_if(turn: bool, core: Core) -> Core
+    ensures { λ n. ⌜ n ≡ turnedCore turn core ⌝ }
+{
+    if !turn {
+        return core;
+    }
+    let c = core.cycle;
+    let cycle = Cycle {
+        running: c.running,
+        lead: c.lead,
+        lag: c.lag,
+        waiting: c.waiting,
+        slot: c.slot,
+        ends: c.ends,
+        index: c.index,
+        odd: !c.odd,
+    };
+    let mut next = core;
+    next.cycle = cycle;
+    next
+}
+
+// Whether n spans leave the parity turned, where each one turns it.
+fn is_turned(turns: bool, n: u32) -> bool
+    ensures { λ t. ⌜ t ≡ (turns && eqb (n % 2) 1) ⌝ }
+{
+    if !turns {
+        return false;
+    }
+    n % 2 == 1
+}
+
+// How many more times a span fits that changes nothing, or only turns the parity.
 fn times_more(same: bool, left: u32, span: u32) -> u32
     requires { ⌜ 0 < span ⌝ }
     ensures { λ n. ⌜ n ≡ cond same (left / span) 0 ⌝ }
@@ -295,44 +354,91 @@ fn times_more(same: bool, left: u32, span: u32) -> u32
     if !same {
         return 0;
     }
+    // a division takes longer than all the rest of an advance with no event
+    if left < span {
+        return 0;
+    }
     left / span
 }
 
-// Span after span; once a span leaves the board as it was, all later ones do, and make as many stores.
-fn run_spans(b: Board, ticks: u32, span: u32) -> Run
-    requires { ⌜ 0 < span ⌝ }
-    ensures { λ r. ⌜ RunOf ticks b (r .board) (r .stores) ⌝ }
+fn smaller(a: u32, b: u32) -> u32
+    ensures { λ n. ⌜ n ≡ min a b ⌝ }
 {
-    let mut now = b;
-    let mut left = ticks;
-    let mut made: u32 = 0;
-    while span <= left {
-        let run = run_any(now, span);
-        let next = run.board;
-        let stores = run.stores;
-        let rest = left - span;
-        let more = times_more(same_moving(next, now), rest, span);
-        made = made + (stores + more * stores);
-        left = rest - more * span;
-        now = next;
+    if a < b {
+        return a;
     }
-    let last = run_any(now, left);
-    let board = last.board;
-    let stores = made + last.stores;
-    Run { board, stores }
+    b
 }
 
-// An advance: some hundreds of steps at the most, for any number of ticks.
-pub(crate) fn advance_by(b: Board, ticks: u32) -> Run
-    ensures { λ r. ⌜ RunOf ticks b (r .board) (r .stores) ⌝ }
+// Span after span; once a span leaves the board as it was, or only turns a parity without effect, all later ones do, and
+// make as many stores.
+fn run_spans(
+    core: Core,
+    inputs: &[i32; 32],
+    gains: &[u8; 32],
+    codes: &mut [u16; 32],
+    unread: &mut [u8; 32],
+    ticks: u32,
+    span: u32,
+    ignored: bool,
+) -> Run
+    requires { ⌜ (0 < ticks → 0 < span) × (ignored ≡ true → IgnoresParity (core .registers)) ⌝ }
+    ensures { λ n. ⌜ RunOf ticks (boardWith core (now (inputs .entry)) (now (gains .entry)) (now (codes .entry)) (now (unread .entry))) (boardWith (n .core) (now (inputs .entry)) (now (gains .entry)) (now (codes .exit)) (now (unread .exit))) (n .stores) ⌝ }
 {
-    let r = b.registers;
-    let span = two_passes(r);
-    if span == 0 {
-        return run_any(b, ticks);
+    let mut before = core;
+    let mut left = ticks;
+    let mut made: u32 = 0;
+    while 0 < left {
+        let part = smaller(left, span);
+        let run = run_any(before, inputs, gains, codes, unread, part);
+        let after = run.core;
+        let stores = run.stores;
+        let rest = left - part;
+        let turn = has_turned(ignored, before, after);
+        let same = same_moving(run.changed, after, turned_if(turn, before));
+        let more = times_more(same, rest, part);
+        made = made + (stores + more * stores);
+        left = rest - more * part;
+        before = turned_if(is_turned(turn, more), after);
     }
-    if (ticks as u64) < span {
-        return run_any(b, ticks);
+    // an advance has no use for the flag
+    Run {
+        changed: true,
+        core: before,
+        stores: made,
     }
-    run_spans(b, ticks, span as u32)
+}
+
+// The span: a pass if its parity is ignored, else two; all ticks if nothing repeats or two passes do not fit.
+fn span_of(r: Registers, ticks: u32, ignored: bool) -> u32
+    ensures { λ n. ⌜ (0 < ticks → 0 < n) ⌝ }
+{
+    let pass = pass_ticks(r);
+    if pass == 0 {
+        return ticks;
+    }
+    if ignored {
+        return pass;
+    }
+    if ticks / 2 < pass {
+        return ticks;
+    }
+    2 * pass
+}
+
+// An advance: some hundreds of steps at the most, for any number of ticks, on a board that calls made.
+pub(crate) fn advance_by(
+    core: Core,
+    inputs: &[i32; 32],
+    gains: &[u8; 32],
+    codes: &mut [u16; 32],
+    unread: &mut [u8; 32],
+    ticks: u32,
+) -> Run
+    ensures { λ n. ⌜ RunOf ticks (boardWith core (now (inputs .entry)) (now (gains .entry)) (now (codes .entry)) (now (unread .entry))) (boardWith (n .core) (now (inputs .entry)) (now (gains .entry)) (now (codes .exit)) (now (unread .exit))) (n .stores) ⌝ }
+{
+    let r = core.registers;
+    let ignored = ignores_parity(r);
+    let span = span_of(r, ticks, ignored);
+    run_spans(core, inputs, gains, codes, unread, ticks, span, ignored)
 }

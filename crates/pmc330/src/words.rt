@@ -3,12 +3,11 @@ ghost use mathlib.Core.Path.{_≡_};
 ghost use Prim.Native.Nat.{_+_, _-_, _/_, _%_, _^_, _≤_, _<_};
 ghost use lib.Dec.{leb};
 ghost use lib.ListN.{getD};
-ghost use Rattle.pmc330_model.specs.Board.{viewOf};
 ghost use Rattle.pmc330_model.specs.Words.{joined, toBit, heldWord, readWord, writtenByte, writtenWord, withWord, gainsFrom, gainsWith, isRelease, isStop, isStart};
 ghost use Rattle.pmc330.specs.Classes.{registerOf};
+ghost use Rattle.pmc330.specs.Steps.{viewIn};
 ghost use Rattle.pmc330.specs.Widths.{powerOf};
 use crate::widths::power;
-use pmc330_model::Board;
 use pmc330_model::Registers;
 
 fn bit(b: bool) -> u32
@@ -17,10 +16,23 @@ fn bit(b: bool) -> u32
     if b { 1 } else { 0 }
 }
 
+// An element of a lent array, widened by a call: what a type bounds is known of a parameter.
+fn wide_byte(n: u8) -> u32
+    ensures { λ r. ⌜ (r ≡ n) × (r < 0x100) ⌝ }
+{
+    n as u32
+}
+
+fn wide_code(n: u16) -> u32
+    ensures { λ r. ⌜ r ≡ n ⌝ }
+{
+    n as u32
+}
+
 // A word of New or Missed bits: slots from `first` on whose count is at least `least`.
-fn flag_word(unread: [u8; 32], first: usize, least: u8) -> u32
+fn flag_word(unread: &[u8; 32], first: usize, least: u8) -> u32
     requires { ⌜ first ≤ 16 ⌝ }
-    ensures { λ r. ⌜ r ≡ joined 2 (λ i. toBit (leb least (getD unread (first + i) 0))) 16 ⌝ }
+    ensures { λ r. ⌜ r ≡ joined 2 (λ i. toBit (leb least (getD (now (unread .entry)) (first + i) 0))) 16 ⌝ }
 {
     let mut word: u32 = 0;
     let mut weight: u32 = 1;
@@ -36,16 +48,16 @@ fn flag_word(unread: [u8; 32], first: usize, least: u8) -> u32
 }
 
 // A word of eight gains, from channel `first` on.
-fn gain_word(gains: [u8; 32], first: usize) -> u32
+fn gain_word(gains: &[u8; 32], first: usize) -> u32
     requires { ⌜ first ≤ 24 ⌝ }
-    ensures { λ r. ⌜ r ≡ joined 4 (λ i. getD gains (first + i) 0) 8 ⌝ }
+    ensures { λ r. ⌜ r ≡ joined 4 (λ i. getD (now (gains .entry)) (first + i) 0) 8 ⌝ }
 {
     let mut word: u32 = 0;
     let mut weight: u32 = 1;
     let mut i: usize = 0;
     while i < 8 {
         let at = first + i;
-        word += (gains[at] as u32) * weight;
+        word += wide_byte(gains[at]) * weight;
         weight *= 4;
         i += 1;
     }
@@ -53,8 +65,8 @@ fn gain_word(gains: [u8; 32], first: usize) -> u32
 }
 
 // The bits of a word that a write sets.
-pub(crate) fn held_word(r: Registers, gains: [u8; 32], class: u8) -> u32
-    ensures { λ w. ⌜ w ≡ heldWord r gains (registerOf class) ⌝ }
+pub(crate) fn held_word(r: Registers, gains: &[u8; 32], class: u8) -> u32
+    ensures { λ w. ⌜ w ≡ heldWord r (now (gains .entry)) (registerOf class) ⌝ }
 {
     match class {
         1 => bit(r.enable),
@@ -68,24 +80,27 @@ pub(crate) fn held_word(r: Registers, gains: [u8; 32], class: u8) -> u32
 }
 
 // The code in a mailbox.
-fn mailbox_word(codes: [u16; 32], class: u8) -> u32
+fn mailbox_word(codes: &[u16; 32], class: u8) -> u32
     requires { ⌜ (32 ≤ class) × (class < 64) ⌝ }
-    ensures { λ w. ⌜ w ≡ getD codes (class - 32) 0 ⌝ }
+    ensures { λ w. ⌜ w ≡ getD (now (codes .entry)) (class - 32) 0 ⌝ }
 {
     let slot = (class - 32) as usize;
-    codes[slot] as u32
+    wide_code(codes[slot])
 }
 
 // The word that is read.
-pub(crate) fn read_word(b: Board, class: u8) -> u32
-    ensures { λ w. ⌜ w ≡ readWord (viewOf b) (registerOf class) ⌝ }
+pub(crate) fn read_word(
+    r: Registers,
+    pending: bool,
+    gains: &[u8; 32],
+    codes: &[u16; 32],
+    unread: &[u8; 32],
+    class: u8,
+) -> u32
+    ensures { λ w. ⌜ w ≡ readWord (viewIn r pending (now (gains .entry)) (now (codes .entry)) (now (unread .entry))) (registerOf class) ⌝ }
 {
-    let r = b.registers;
-    let gains = b.gains;
-    let codes = b.codes;
-    let unread = b.unread;
     match class {
-        1 => bit(r.enable) + bit(b.pending) * 2,
+        1 => bit(r.enable) + bit(pending) * 2,
         7 => flag_word(unread, 0, 1),
         8 => flag_word(unread, 16, 1),
         9 => flag_word(unread, 0, 2),
@@ -172,30 +187,28 @@ pub(crate) fn with_word(class: u8, word: u32, r: Registers) -> Registers
     n
 }
 
-// The gains after eight channels from `first` on take two bits each.
-fn gains_from(gains: [u8; 32], first: usize, word: u32) -> [u8; 32]
+// Eight gains from channel `first` on take two bits each.
+fn gains_from(gains: &mut [u8; 32], first: usize, word: u32)
     requires { ⌜ first ≤ 24 ⌝ }
-    ensures { λ g. ⌜ g ≡ gainsFrom first word 8 gains ⌝ }
+    ensures { λ _. ⌜ now (gains .exit) ≡ gainsFrom first word 8 (now (gains .entry)) ⌝ }
 {
-    let mut next = gains;
     let mut rest = word;
     let mut i: usize = 0;
     while i < 8 {
         let at = first + i;
-        next[at] = (rest % 4) as u8;
+        gains[at] = (rest % 4) as u8;
         rest /= 4;
         i += 1;
     }
-    next
 }
 
-// The gains after a register takes a word.
-pub(crate) fn gains_with(class: u8, word: u32, gains: [u8; 32]) -> [u8; 32]
-    ensures { λ g. ⌜ g ≡ gainsWith (registerOf class) word gains ⌝ }
+// The gains when a register takes a word.
+pub(crate) fn gains_with(gains: &mut [u8; 32], class: u8, word: u32)
+    ensures { λ _. ⌜ now (gains .exit) ≡ gainsWith (registerOf class) word (now (gains .entry)) ⌝ }
 {
     match class {
         11..=14 => gains_from(gains, 8 * ((class - 11) as usize), word),
-        _ => gains,
+        _ => {}
     }
 }
 

@@ -1,11 +1,10 @@
 -- What ties a board to the logbook of the calls that led to it. The logbook holds what the board does, and beside it
 -- a tick, the running cycle and the events: the proof of sentence 3 shows that each call keeps `Agrees`.
-use mathlib.Core.Bool.{Bool, true, false, _||_}
+use mathlib.Core.Bool.{Bool, true, false}
 use mathlib.Core.List.{List, [], _∷_}
 use mathlib.Core.Logic.{_⊎_}
 use mathlib.Core.Path.{_≡_}
 use Prim.Native.Nat.{ℕ, suc, _+_, _-_, _%_, _≤_, _<_, min}
-use lib.Dec.{ltb}
 use lib.ListN.{getD, length}
 use Rattle.pmc330_model.specs.Map.{scanField}
 use Rattle.pmc330_model.specs.Schedule.{passLength, interval, isDifferential, isUniform, isTimed, isTriggerOnly, inOddPass, slotOf, endsPass, beginsAt, isScheduled}

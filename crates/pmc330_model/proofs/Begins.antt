@@ -1,16 +1,13 @@
 -- A conversion begins: the board's beginning is the logbook's.
-use mathlib.Core.Bool.{Bool, true, false, not, cond, _&&_, _||_}
-use mathlib.Core.List.{List, [], _∷_}
-use mathlib.Core.Path.{_≡_, refl, sym, ap, ap₂, _∙_}
+use mathlib.Core.Bool.{Bool, not, cond, _&&_}
+use mathlib.Core.List.{List}
+use mathlib.Core.Path.{_≡_, sym, ap, ap₂, _∙_}
 use Prim.Native.Nat.{ℕ, suc, _+_, _%_, _<_}
 use native.Mathlib.Nat.{mod-eq-of-lt}
-use native.Mathlib.Omega.{arith}
-use lib.Dec.{leb}
 use Rattle.analog.proofs.Bounds.{code-below}
-use Rattle.pmc330_model.specs.Schedule.{passLength, isDifferential, isTimed, channelOf, inOddPass, slotOf, endsPass, voltageAt, codeAt}
+use Rattle.pmc330_model.specs.Schedule.{passLength, isDifferential, channelOf, inOddPass, slotOf, endsPass, voltageAt, codeAt}
 use Rattle.pmc330_model.specs.Board.{begun, leadAfter}
-use Rattle.pmc330_model.specs.Logbook.{Event, Running, Logbook, begins, withHappened}
-use Rattle.pmc330_model.specs.declared.Registers.{Registers}
+use Rattle.pmc330_model.specs.Logbook.{Event, Running, begins, withHappened}
 use Rattle.pmc330_model.specs.declared.Board.{Board}
 use Rattle.pmc330_model.proofs.Agreement.{Startable, bookOf}
 use Rattle.pmc330_model.proofs.Due.{channel-below, slot-below, ends-here, index-next, parity-next}

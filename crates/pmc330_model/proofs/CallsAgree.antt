@@ -1,24 +1,22 @@
 -- Each call keeps the board and its logbook related, and both give the same answer.
-use mathlib.Core.Bool.{Bool, true, false, not, cond, _&&_, _||_, false≢true}
+use mathlib.Core.Bool.{Bool, true, false, not, cond, false≢true}
 use mathlib.Core.List.{List, [], _∷_}
 use mathlib.Core.Path.{_≡_, refl, sym, ap, ap₂, subst, _∙_}
-use Prim.Native.Nat.{ℕ, zero, suc, _+_, _-_, _^_, _≤_, _<_}
-use native.Mathlib.Nat.{add-sub-cancel}
+use Prim.Native.Nat.{ℕ, _-_}
 use native.Mathlib.Omega.{arith}
-use lib.Dec.{eqb, ltb, leb}
-use lib.IntN.{ℤ}
-use borrow.Author.Tests.{eq-eqb, eqb-true}
+use lib.Dec.{eqb}
+use borrow.Author.Tests.{eqb-true}
 use Rattle.analog.specs.Answers.{Question, question, firstNo, answered}
-use Rattle.pmc330_model.specs.Map.{Register, unmapped, interrupt, control, prescaler, timer, channels, startConvert, newData, missedData, gain, mailbox, classOf, isMapped, isWritable, scanField}
-use Rattle.pmc330_model.specs.Words.{withWord, readWord, readBytes, isStart}
+use Rattle.pmc330_model.specs.Map.{Register, unmapped, interrupt, control, prescaler, timer, channels, startConvert, newData, missedData, gain, mailbox, classOf, scanField}
+use Rattle.pmc330_model.specs.Words.{withWord, readBytes, isStart}
 use Rattle.pmc330_model.specs.Calls.{Call, read, write, input, advance, trigger, reset}
-use Rattle.pmc330_model.specs.Board.{afterRead, afterCall, valueOfCall, questionsOf, boardCall, clearedBoard, viewOf, storesIn}
-use Rattle.pmc330_model.specs.Logbook.{Event, wasReset, Running, idle, since, isIdle, Logbook, readEvent, happens, logbookQuestions, logged, loggedValue, loggedAnswer, logbookView, storesMade, ticksPass}
-use Rattle.pmc330_model.specs.Questions.{isWidth, isAligned, isAllowed, isValid, hasChannels, hasInterval, startQuestions, resultingWord, callQuestions}
+use Rattle.pmc330_model.specs.Board.{afterRead, afterCall, valueOfCall, questionsOf, boardCall, storesIn}
+use Rattle.pmc330_model.specs.Logbook.{Event, wasReset, Running, idle, since, isIdle, Logbook, readEvent, happens, logbookQuestions, logged, loggedValue, loggedAnswer, storesMade, ticksPass}
+use Rattle.pmc330_model.specs.Questions.{isAllowed, isValid, hasChannels, hasInterval, startQuestions, resultingWord, callQuestions}
 use Rattle.pmc330_model.specs.declared.Registers.{Registers}
 use Rattle.pmc330_model.specs.declared.Cycle.{Cycle}
 use Rattle.pmc330_model.specs.declared.Board.{Board}
-use Rattle.pmc330_model.proofs.Agreement.{bookOf, Limits, Timed, Armed, CycleAgrees, Agrees, Related, Moved}
+use Rattle.pmc330_model.proofs.Agreement.{bookOf, Timed, Armed, CycleAgrees, Agrees, Related}
 use Rattle.pmc330_model.proofs.Memory.{memory-read, memory-reset}
 use Rattle.pmc330_model.proofs.QuestionLaws.{first-met, rest-met}
 use Rattle.pmc330_model.proofs.Reading.{words-agree}

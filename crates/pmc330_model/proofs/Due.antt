@@ -3,16 +3,16 @@ use mathlib.Core.Bool.{Bool, true, false, not, cond, _&&_, _||_}
 use mathlib.Core.List.{List}
 use mathlib.Core.Logic.{_⊎_, inl, inr, ⊎-elim}
 use mathlib.Core.Path.{_≡_, refl, sym, ap, _∙_}
-use Prim.Native.Nat.{ℕ, zero, suc, _+_, _-_, _*_, _/_, _%_, _≤_, _<_}
-use native.Mathlib.Nat.{zero-add, mod-eq-of-lt, eq-or-lt-of-le}
+use Prim.Native.Nat.{ℕ, suc, _+_, _-_, _/_, _%_, _≤_, _<_}
+use native.Mathlib.Nat.{zero-add, mod-eq-of-lt}
 use native.Mathlib.Omega.{arith}
 use lib.Dec.{eqb, ltb, leb}
 use borrow.Author.Tests.{eq-eqb, ne-eqb, lt-ltb, le-ltb, le-leb, lt-leb, ltb-true, ltb-false}
-use Rattle.pmc330_model.specs.Schedule.{passLength, isDifferential, isUniform, isSingle, isTimed, channelOf, inOddPass, slotOf, endsPass, beginsAt, isScheduled, Due, none, conversion, firstFrom}
-use Rattle.pmc330_model.specs.Logbook.{Running, idle, since, dueAfter}
+use Rattle.pmc330_model.specs.Schedule.{passLength, isDifferential, isSingle, isTimed, channelOf, inOddPass, slotOf, endsPass, beginsAt, isScheduled, none, conversion}
+use Rattle.pmc330_model.specs.Logbook.{since, dueAfter}
 use Rattle.pmc330_model.specs.declared.Registers.{Registers}
 use Rattle.pmc330_model.proofs.Agreement.{Startable}
-use Rattle.pmc330_model.proofs.Cases.{lt-or-le, true-or-false, never, and-left, and-right}
+use Rattle.pmc330_model.proofs.Cases.{true-or-false}
 use Rattle.pmc330_model.proofs.Schedule.{place-below, inside-or-ends, ends-is, inside-is, same-pass, next-place, next-pass, first-place, odd-next, before, late, search-none, search-at}
 
 and-false : (a : Bool) → (a && false) ≡ false

@@ -1,16 +1,16 @@
 -- The schedule's laws: the step from a conversion to the next, the gap between two, and what the search finds.
-use mathlib.Core.Bool.{Bool, true, false, not, cond, _&&_, _||_}
+use mathlib.Core.Bool.{Bool, true, false, not, cond}
 use mathlib.Core.Logic.{_⊎_, inl, inr, ⊎-elim}
-use mathlib.Core.Path.{_≡_, refl, sym, ap, _∙_}
+use mathlib.Core.Path.{_≡_, refl}
 use Prim.Native.Nat.{ℕ, zero, suc, _+_, _-_, _*_, _/_, _%_, _≤_, _<_}
-use native.Mathlib.Nat.{eq-or-lt-of-le, div-add-mod', mod-lt, add-zero, suc-add, add-suc, suc-mul, mul-suc, add-mul, mul-comm}
+use native.Mathlib.Nat.{eq-or-lt-of-le, div-add-mod', mod-lt, add-zero, suc-add, add-suc, suc-mul}
 use native.Mathlib.Omega.{arith}
 use lib.Arith.{digits-div, digits-mod}
-use lib.Dec.{eqb, ltb, leb}
-use borrow.Author.Tests.{eq-eqb, ne-eqb, lt-ltb, le-ltb, le-leb, lt-leb, eqb-true, ltb-true}
-use Rattle.pmc330_model.specs.Schedule.{passLength, interval, isUniform, isBurst, isSingle, isTimed, isDifferential, channelOf, inOddPass, slotOf, endsPass, burstDelay, beginsAt, isScheduled, Due, none, conversion, orElse, firstFrom}
+use lib.Dec.{eqb}
+use borrow.Author.Tests.{eq-eqb, ne-eqb}
+use Rattle.pmc330_model.specs.Schedule.{passLength, interval, isUniform, endsPass, burstDelay, beginsAt, none, conversion, firstFrom}
 use Rattle.pmc330_model.specs.declared.Registers.{Registers}
-use Rattle.pmc330_model.proofs.Cases.{lt-or-le, and-left, and-right, never}
+use Rattle.pmc330_model.proofs.Cases.{lt-or-le}
 
 -- the next number's quotient and remainder, inside a pass
 module _ (k m : ℕ) (inside : suc (k % m) < m) where

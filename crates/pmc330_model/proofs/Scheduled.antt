@@ -1,7 +1,7 @@
 -- The stores of a logbook are those of the schedule, and its ticks those of the accepted advances.
 use mathlib.Core.Bool.{Bool, true, false, not, cond, _&&_, _||_}
 use mathlib.Core.List.{List, [], _∷_}
-use mathlib.Core.Logic.{_⊎_, inl, inr, ⊎-elim}
+use mathlib.Core.Logic.{_⊎_, ⊎-elim}
 use mathlib.Core.Path.{_≡_, refl, sym, ap, subst, _∙_}
 use Prim.Native.Nat.{ℕ, zero, suc, _+_, _-_, _≤_, _<_}
 use native.Mathlib.Nat.{add-zero, add-suc, suc-add}
@@ -9,14 +9,14 @@ use native.Mathlib.Omega.{arith}
 use lib.Dec.{eqb, leb}
 use lib.ListN.{length}
 use borrow.Author.Tests.{eq-eqb, ne-eqb, eqb-true, le-leb, leb-true}
-use Rattle.analog.specs.Answers.{Question, firstNo, allMet}
+use Rattle.analog.specs.Answers.{firstNo, allMet}
 use Rattle.analog.proofs.AnswerLaws.{none-first, some-first}
 use Rattle.pmc330_model.specs.Map.{Register, unmapped, interrupt, control, prescaler, timer, channels, startConvert, newData, missedData, gain, mailbox, classOf, triggerField, scanField}
 use Rattle.pmc330_model.specs.Words.{isRelease, isStop, isStart}
 use Rattle.pmc330_model.specs.Schedule.{isBurst, isSingle, isTimed, isTriggerOnly, channelOf, slotOf, endsPass, codeAt, formattedBy, isInterrupting, beginsAt, isScheduled, Due, none, conversion, orElse, firstFrom}
 use Rattle.pmc330_model.specs.Calls.{Call, read, write, input, advance, trigger, reset}
 use Rattle.pmc330_model.specs.Questions.{callQuestions, resultingWord, hasChannels, hasInterval}
-use Rattle.pmc330_model.specs.Logbook.{Event, Running, idle, since, release, cycleStart, store, Logbook, withHappened, begins, stores, storesInTime, dueAfter, ifDue, storesDue, beginsDue, tickPasses, ticksPass, starts, isTaken, storesBefore, takes, triggeredIn, triggerComes, readEvent, writes, happens, isIdle, logbookQuestions, logged}
+use Rattle.pmc330_model.specs.Logbook.{Event, Running, idle, since, release, cycleStart, store, Logbook, withHappened, begins, stores, storesInTime, dueAfter, ifDue, storesDue, beginsDue, tickPasses, ticksPass, starts, isTaken, takes, triggeredIn, triggerComes, readEvent, writes, happens, isIdle, logbookQuestions, logged}
 use Rattle.pmc330_model.specs.Sentences.{InCycle, mayStore, storesAmong, Scheduled, isTimeless, EveryTick}
 use Rattle.pmc330_model.specs.declared.Registers.{Registers}
 use Rattle.pmc330_model.proofs.Agreement.{Startable}

@@ -1,24 +1,24 @@
 -- A cycle starts: the board's fresh cycle is the logbook's, in every mode.
 use mathlib.Core.Bool.{Bool, true, false, not, cond, _&&_, _||_}
 use mathlib.Core.List.{List, [], _∷_}
-use mathlib.Core.Logic.{_⊎_, inl, inr, ⊎-elim}
-use mathlib.Core.Path.{_≡_, refl, sym, ap, subst, _∙_}
-use Prim.Native.Nat.{ℕ, zero, suc, _+_, _-_, _*_, _/_, _%_, _≤_, _<_}
-use native.Mathlib.Nat.{add-zero, zero-add, one-mul, zero-mod, zero-div, zero-mul, mul-zero}
+use mathlib.Core.Logic.{_⊎_, inl, inr}
+use mathlib.Core.Path.{_≡_, refl, sym, ap, _∙_}
+use Prim.Native.Nat.{ℕ, zero, suc, _+_, _-_, _*_, _/_, _%_, _≤_}
+use native.Mathlib.Nat.{add-zero, one-mul, zero-mod, zero-div, zero-mul}
 use native.Mathlib.Omega.{arith}
 use lib.Dec.{eqb, ltb, leb}
 use lib.ListN.{replicate}
-use borrow.Author.Tests.{eq-eqb, ne-eqb, eqb-true, leb-true, lt-ltb}
+use borrow.Author.Tests.{leb-true, lt-ltb}
 use Rattle.pmc330_model.specs.Map.{scanField, isTimerEnabled}
-use Rattle.pmc330_model.specs.Schedule.{passLength, interval, isDifferential, isUniform, isBurst, isSingle, isTimed, isTriggerOnly, inOddPass, slotOf, endsPass, burstDelay, beginsAt, isScheduled}
+use Rattle.pmc330_model.specs.Schedule.{passLength, interval, isDifferential, isUniform, isBurst, isSingle, isTimed, isTriggerOnly, inOddPass, burstDelay, beginsAt, isScheduled}
 use Rattle.pmc330_model.specs.Board.{begun, freshCycle, started}
 use Rattle.pmc330_model.specs.Logbook.{Event, cycleStart, Running, since, starts}
 use Rattle.pmc330_model.specs.Questions.{hasChannels, hasInterval}
 use Rattle.pmc330_model.specs.declared.Registers.{Registers}
 use Rattle.pmc330_model.specs.declared.Board.{Board}
-use Rattle.pmc330_model.proofs.Agreement.{bookOf, Memory, Limits, Startable, InFlight, AllStored, ToCome, NoMore, Timed, Armed, RunningAgrees, Agrees, Related}
+use Rattle.pmc330_model.proofs.Agreement.{bookOf, Memory, Limits, Startable, Timed, Armed, Agrees, Related}
 use Rattle.pmc330_model.proofs.Begins.{begins-is, begun-ends, begun-lead, begun-index, begun-odd, begun-slot, begun-held}
-use Rattle.pmc330_model.proofs.Cases.{true-or-false, never, and-left, and-right, implied, same-or-not}
+use Rattle.pmc330_model.proofs.Cases.{and-left, and-right, implied}
 use Rattle.pmc330_model.proofs.Memory.{memory-start}
 use Rattle.pmc330_model.proofs.TickBegins.{next-after}
 

@@ -1,7 +1,7 @@
 -- A conversion is stored: the board's store is the logbook's event.
-use mathlib.Core.Bool.{Bool, true, false, cond, _&&_, _||_}
-use mathlib.Core.List.{List, [], _∷_}
-use mathlib.Core.Path.{_≡_, refl, sym, ap, ap₂, subst₂, _∙_}
+use mathlib.Core.Bool.{Bool, _||_}
+use mathlib.Core.List.{List, _∷_}
+use mathlib.Core.Path.{_≡_, sym, ap, subst₂, _∙_}
 use Prim.Native.Nat.{ℕ, _+_, _%_, _<_, min}
 use native.Mathlib.Nat.{mod-eq-of-lt}
 use lib.ListN.{getD, set}

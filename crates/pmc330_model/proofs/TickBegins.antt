@@ -1,22 +1,22 @@
 -- The second half of a tick in a timed cycle: the beginning that is due, if any.
-use mathlib.Core.Bool.{Bool, true, false, not, cond, _&&_, _||_}
-use mathlib.Core.List.{List, [], _∷_}
+use mathlib.Core.Bool.{Bool, true, false, not, cond, _&&_}
+use mathlib.Core.List.{List}
 use mathlib.Core.Logic.{_⊎_, inl, inr, ⊎-elim}
 use mathlib.Core.Path.{_≡_, refl, sym, ap, ap₂, subst, _∙_}
-use Prim.Native.Nat.{ℕ, zero, suc, _+_, _-_, _*_, _%_, _≤_, _<_}
+use Prim.Native.Nat.{ℕ, suc, _+_, _-_, _%_, _≤_, _<_}
 use native.Mathlib.Nat.{add-zero, eq-or-lt-of-le}
 use native.Mathlib.Omega.{arith}
-use lib.Dec.{eqb, leb}
+use lib.Dec.{eqb}
 use borrow.Author.Tests.{eq-eqb, ne-eqb}
-use Rattle.pmc330_model.specs.Schedule.{passLength, isUniform, isSingle, isTimed, inOddPass, slotOf, endsPass, beginsAt, isScheduled, none, conversion}
+use Rattle.pmc330_model.specs.Schedule.{passLength, isSingle, isTimed, inOddPass, endsPass, beginsAt, isScheduled, none}
 use Rattle.pmc330_model.specs.Board.{begun, begunIfDue, leadAfter}
-use Rattle.pmc330_model.specs.Logbook.{Event, since, dueAfter, ifDue, begins, beginsDue}
+use Rattle.pmc330_model.specs.Logbook.{Event, since, ifDue, begins, beginsDue}
 use Rattle.pmc330_model.specs.declared.Registers.{Registers}
 use Rattle.pmc330_model.specs.declared.Cycle.{Cycle}
 use Rattle.pmc330_model.specs.declared.Board.{Board}
-use Rattle.pmc330_model.proofs.Agreement.{bookOf, Memory, Limits, Startable, InFlight, AllStored, ToCome, NoMore, Timed, RunningAgrees, Agrees}
+use Rattle.pmc330_model.proofs.Agreement.{bookOf, Memory, Limits, Startable, InFlight, AllStored, ToCome, NoMore, Agrees}
 use Rattle.pmc330_model.proofs.Begins.{begins-is, begun-ends, begun-lead, begun-index, begun-odd, begun-slot, begun-held}
-use Rattle.pmc330_model.proofs.Cases.{same-or-not, lt-or-le, true-or-false, never}
+use Rattle.pmc330_model.proofs.Cases.{same-or-not, lt-or-le, never}
 use Rattle.pmc330_model.proofs.Due.{due-found, due-none, unscheduled-later, scheduled-next}
 use Rattle.pmc330_model.proofs.Schedule.{step, stepAfter, step-long, before}
 

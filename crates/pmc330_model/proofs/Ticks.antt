@@ -1,20 +1,20 @@
 -- A tick of a board and of its logbook, in every mode.
-use mathlib.Core.Bool.{Bool, true, false, not, cond, _&&_, _||_}
-use mathlib.Core.List.{List, [], _∷_}
+use mathlib.Core.Bool.{Bool, true, false, cond, _&&_}
+use mathlib.Core.List.{List, _∷_}
 use mathlib.Core.Logic.{_⊎_, inl, inr, ⊎-elim}
 use mathlib.Core.Path.{_≡_, refl, sym, ap, ap₂, subst, _∙_}
-use Prim.Native.Nat.{ℕ, zero, suc, _+_, _-_, _*_, _%_, _≤_, _<_}
+use Prim.Native.Nat.{ℕ, zero, suc, _+_, _-_, _≤_, _<_}
 use native.Mathlib.Nat.{eq-or-lt-of-le, zero-add}
 use native.Mathlib.Omega.{arith}
-use lib.Dec.{eqb, leb}
+use lib.Dec.{eqb}
 use borrow.Author.Tests.{eq-eqb, ne-eqb}
-use Rattle.pmc330_model.specs.Schedule.{passLength, isSingle, isTimed, slotOf, endsPass, formattedBy, isInterrupting, beginsAt, isScheduled, none, conversion}
+use Rattle.pmc330_model.specs.Schedule.{isSingle, isTimed, endsPass, beginsAt, isScheduled, none}
 use Rattle.pmc330_model.specs.Board.{idleCycle, withCycle, stored, begun, storedInTime, elapsed, isStoreDue, isBeginningDue, storedIfDue, begunIfDue, ticked, advanced, storesIn}
-use Rattle.pmc330_model.specs.Logbook.{Event, store, Running, idle, since, Logbook, dueAfter, ifDue, stores, storesInTime, storesDue, begins, beginsDue, tickPasses, ticksPass, storesMade}
+use Rattle.pmc330_model.specs.Logbook.{Event, Running, idle, since, dueAfter, ifDue, storesInTime, storesDue, begins, beginsDue, tickPasses, ticksPass, storesMade}
 use Rattle.pmc330_model.specs.declared.Registers.{Registers}
 use Rattle.pmc330_model.specs.declared.Cycle.{Cycle}
 use Rattle.pmc330_model.specs.declared.Board.{Board}
-use Rattle.pmc330_model.proofs.Agreement.{bookOf, Memory, Limits, Startable, InFlight, AllStored, ToCome, NoMore, Timed, Waiting, Untriggered, Armed, RunningAgrees, CycleAgrees, Agrees, Moved}
+use Rattle.pmc330_model.proofs.Agreement.{bookOf, Memory, Limits, Startable, InFlight, AllStored, ToCome, NoMore, Timed, Waiting, Untriggered, Armed, Agrees, Moved}
 use Rattle.pmc330_model.proofs.Cases.{same-or-not, lt-or-le, true-or-false, never, and-left}
 use Rattle.pmc330_model.proofs.Due.{due-found, due-none, unscheduled-later}
 use Rattle.pmc330_model.proofs.Schedule.{before}

@@ -1,24 +1,24 @@
 -- A trigger: taken, the start of a cycle, or ignored, on the board as in the logbook.
-use mathlib.Core.Bool.{Bool, true, false, not, cond, _&&_, _||_}
-use mathlib.Core.List.{List, [], _∷_}
+use mathlib.Core.Bool.{Bool, true, false, cond, _&&_}
+use mathlib.Core.List.{List, _∷_}
 use mathlib.Core.Logic.{_⊎_, inl, inr, ⊎-elim}
-use mathlib.Core.Path.{_≡_, refl, sym, ap, ap₂, subst, _∙_}
-use Prim.Native.Nat.{ℕ, zero, suc, _+_, _-_, _%_, _≤_, _<_}
+use mathlib.Core.Path.{_≡_, refl, sym, ap, subst, _∙_}
+use Prim.Native.Nat.{ℕ, _-_, _%_, _≤_, _<_}
 use native.Mathlib.Omega.{arith}
-use lib.Dec.{eqb, leb}
+use lib.Dec.{eqb}
 use lib.ListN.{length}
-use borrow.Author.Tests.{eq-eqb, ne-eqb, eqb-true, le-leb, lt-leb}
+use borrow.Author.Tests.{eq-eqb, ne-eqb, le-leb, lt-leb}
 use Rattle.pmc330_model.specs.Map.{triggerField, scanField}
-use Rattle.pmc330_model.specs.Schedule.{passLength, isTimed, isTriggerOnly, inOddPass, slotOf, endsPass}
+use Rattle.pmc330_model.specs.Schedule.{passLength, isTimed, isTriggerOnly, inOddPass}
 use Rattle.pmc330_model.specs.Board.{stored, begun, started, triggerTaken, triggered}
-use Rattle.pmc330_model.specs.Logbook.{Event, Running, idle, since, Logbook, withHappened, begins, stores, storesBefore, isTaken, takes, starts, triggeredIn, triggerComes}
+use Rattle.pmc330_model.specs.Logbook.{Event, Running, idle, since, withHappened, begins, storesBefore, isTaken, takes, triggeredIn, triggerComes}
 use Rattle.pmc330_model.specs.Questions.{hasChannels, hasInterval}
 use Rattle.pmc330_model.specs.declared.Registers.{Registers}
 use Rattle.pmc330_model.specs.declared.Cycle.{Cycle}
 use Rattle.pmc330_model.specs.declared.Board.{Board}
-use Rattle.pmc330_model.proofs.Agreement.{bookOf, Memory, Startable, Timed, Waiting, Untriggered, Armed, RunningAgrees, Agrees, Related}
+use Rattle.pmc330_model.proofs.Agreement.{bookOf, Memory, Startable, Timed, Waiting, Untriggered, Armed, Agrees, Related}
 use Rattle.pmc330_model.proofs.Begins.{begins-is, begun-ends, begun-index, begun-odd, begun-slot, begun-held}
-use Rattle.pmc330_model.proofs.Cases.{true-or-false, never, and-left, and-right, lt-or-le}
+use Rattle.pmc330_model.proofs.Cases.{never, and-left, and-right, lt-or-le}
 use Rattle.pmc330_model.proofs.Starts.{startable-of, started-agrees}
 use Rattle.pmc330_model.proofs.Related.{unchanged, both}
 use Rattle.pmc330_model.proofs.Stores.{storeOf, stored-memory}

@@ -1,12 +1,12 @@
 -- An accepted write: the registers, a release, a stop and a start, on the board as in the logbook.
 use mathlib.Core.Bool.{Bool, true, false, not, cond, _&&_, _||_, false≢true}
-use mathlib.Core.List.{List, [], _∷_}
-use mathlib.Core.Logic.{_⊎_, inl, inr, ⊎-elim}
-use mathlib.Core.Path.{_≡_, refl, sym, ap, subst, _∙_}
-use Prim.Native.Nat.{ℕ, zero, suc, _+_, _-_, _*_, _/_, _%_, _≤_, _<_}
+use mathlib.Core.List.{List, _∷_}
+use mathlib.Core.Logic.{_⊎_, inl, inr}
+use mathlib.Core.Path.{_≡_, refl, sym, subst}
+use Prim.Native.Nat.{ℕ, _-_, _/_, _%_, _≤_}
 use native.Mathlib.Omega.{arith}
 use lib.Dec.{eqb, leb}
-use borrow.Author.Tests.{eqb-true, leb-true}
+use borrow.Author.Tests.{leb-true}
 use Rattle.pmc330_model.specs.Map.{Register, unmapped, interrupt, control, prescaler, timer, channels, startConvert, newData, missedData, gain, mailbox, triggerField, acquisitionField, scanField, interruptField, keptControl}
 use Rattle.pmc330_model.specs.Words.{withWord, gainsWith, bitOf, isRelease, isStop, isStart}
 use Rattle.pmc330_model.specs.Schedule.{beginsAt}
@@ -17,7 +17,7 @@ use Rattle.pmc330_model.specs.declared.Registers.{Registers}
 use Rattle.pmc330_model.specs.declared.Cycle.{Cycle}
 use Rattle.pmc330_model.specs.declared.Board.{Board}
 use Rattle.pmc330_model.proofs.Agreement.{bookOf, Memory, Limits, Startable, InFlight, AllStored, ToCome, NoMore, Timed, Waiting, Untriggered, Armed, RunningAgrees, CycleAgrees, Agrees, Related}
-use Rattle.pmc330_model.proofs.Cases.{true-or-false, never, and-left, and-right}
+use Rattle.pmc330_model.proofs.Cases.{and-left, and-right}
 use Rattle.pmc330_model.proofs.Memory.{memory-release}
 use Rattle.pmc330_model.proofs.Starts.{startable-of, started-agrees}
 use Rattle.pmc330_model.proofs.Related.{unchanged, both}

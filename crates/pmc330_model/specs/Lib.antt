@@ -5,6 +5,7 @@ pub mod Calls
 pub mod Questions
 pub mod Board
 pub mod Jumps
+pub mod Lent
 pub mod Logbook
 pub mod Sentences
 pub mod Bench

@@ -9,7 +9,11 @@ use mir.Val.{SFits, toZ}
 use lib.IntN.{ℤ, pos, negsuc, _-ℤ_}
 use lib.ListN.{length, drop, set}
 use borrow.Author.Tests.{lt-ltb, le-ltb}
-use Rattle.trace.specs.Grammar.{signedOf}
+use Rattle.analog.specs.declared.Answer.{Answer}
+use Rattle.pmc330_model.specs.Board.{boardCall}
+use Rattle.pmc330_model.specs.declared.Board.{Board}
+use Rattle.pmc330_model.specs.declared.Reply.{Reply}
+use Rattle.trace.specs.Grammar.{signedOf, callOf}
 
 -- ---- two's complement
 
@@ -33,6 +37,18 @@ module _ (n : ℕ) (high : 0x8000_0000 ≤ n) (fits : n < 0x1_0000_0000) where
 
   pub signed-fits : SFits w32 (negsuc (0xffff_ffff - n))
   signed-fits = record { sfits = omega arith }
+
+-- ---- a reply in two parts
+
+-- the answer and the board of a reply are those of one that equals it
+pub replied :
+    {r r′ : Reply} → r ≡ r′ → {answer : Answer} {board : Board} → answer ≡ r .answer → board ≡ r .board
+    → (answer ≡ r′ .answer) × (board ≡ r′ .board)
+replied e a b = (a ∙ ap (λ (x : Reply). x .answer) e, b ∙ ap (λ (x : Reply). x .board) e)
+
+-- a call by a number that equals its tag
+pub same-tag : (b : Board) (body : List ℕ) {t u : ℕ} → t ≡ u → boardCall b (callOf t body) ≡ boardCall b (callOf u body)
+same-tag b body e = ap (λ (t : ℕ). boardCall b (callOf t body)) e
 
 -- ---- five bytes written
 

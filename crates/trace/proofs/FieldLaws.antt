@@ -1,5 +1,5 @@
 -- The laws of fields: a trace's fields are its first field, then the fields after it.
-use mathlib.Core.Bool.{true, false, cond, _&&_}
+use mathlib.Core.Bool.{Bool, true, false, cond, _&&_}
 use mathlib.Core.List.{List, [], _∷_}
 use mathlib.Core.Logic.{⊎-elim}
 use mathlib.Core.Path.{_≡_, refl, sym, ap, ap₂, _∙_}
@@ -22,16 +22,17 @@ use Rattle.trace.specs.declared.fields.Checked.the-variants.{Calls}
 
 -- ---- the grammar's table
 
-pub length-law : (tag : ℕ) → tag < 7 → (getD (5 ∷ 3 ∷ 7 ∷ 5 ∷ 4 ∷ 0 ∷ 0 ∷ []) tag 0 ≡ lengthOf tag) × (getD (5 ∷ 3 ∷ 7 ∷ 5 ∷ 4 ∷ 0 ∷ 0 ∷ []) tag 0 < 8)
+-- what has no row, and a trigger and a reset, have no body
+pub length-none :
+    (tag : ℕ) → (tag ≡ 0 → ⊥) → (tag ≡ 1 → ⊥) → (tag ≡ 2 → ⊥) → (tag ≡ 3 → ⊥) → (tag ≡ 4 → ⊥) → lengthOf tag ≡ 0
 unfolding lengthOf lengthIn
-length-law zero h = (refl, omega arith)
-length-law (suc zero) h = (refl, omega arith)
-length-law (suc (suc zero)) h = (refl, omega arith)
-length-law (suc (suc (suc zero))) h = (refl, omega arith)
-length-law (suc (suc (suc (suc zero)))) h = (refl, omega arith)
-length-law (suc (suc (suc (suc (suc zero))))) h = (refl, omega arith)
-length-law (suc (suc (suc (suc (suc (suc zero)))))) h = (refl, omega arith)
-length-law (suc (suc (suc (suc (suc (suc (suc n))))))) h = absurd (omega arith)
+length-none tag n₀ n₁ n₂ n₃ n₄ =
+    rw (ne-eqb tag 0 n₀, ne-eqb tag 1 n₁, ne-eqb tag 2 n₂, ne-eqb tag 3 n₃, ne-eqb tag 4 n₄) (go (eqb tag 5) (eqb tag 6))
+  where
+    go : (trigger reset : Bool) → _≡_ {A = ℕ} (cond trigger 0 (cond reset 0 0)) 0
+    go true reset = refl
+    go false true = refl
+    go false false = refl
 
 pub call-law : (tag : ℕ) → 0 < tag → tag < 7 → isCallTag tag ≡ true
 unfolding isCallTag isCallIn
@@ -47,10 +48,6 @@ call-law (suc (suc (suc (suc (suc (suc (suc n))))))) some h = absurd (omega arit
 module _ (tag : ℕ) (beyond : 7 ≤ tag) where
   other : (n : ℕ) → n < 7 → eqb tag n ≡ false
   other n h = ne-eqb tag n (λ e. omega arith)
-
-  pub length-beyond : lengthOf tag ≡ 0
-  unfolding lengthOf lengthIn
-  length-beyond = rw (other 0 (omega arith), other 1 (omega arith), other 2 (omega arith), other 3 (omega arith), other 4 (omega arith), other 5 (omega arith), other 6 (omega arith))
 
   pub call-beyond : isCallTag tag ≡ false
   unfolding isCallTag isCallIn

@@ -279,8 +279,7 @@ heading-length trace e =
     heading-long trace (and-left (isWhole trace) (eqb (tagOf trace) 0x00) front) (eqb-true (tagOf trace) 0x00 (and-right (isWhole trace) (eqb (tagOf trace) 0x00) front))
 
 -- the board that a trace's calls begin on
-pub opened-board : (trace : List ℕ) → isHeading trace ≡ true → (range : ℕ) (opened : Reply) → range ≡ rangeOf trace → opened ≡ newCall range → opened .board ≡ newBoard (rangeOf trace)
-opened-board trace heading range opened same e =
-    ap (λ (r : Reply). r .board) e
-    ∙ ap (λ (n : ℕ). newBoard (cond (leb n 3) n 0)) same
+pub opened-board : (trace : List ℕ) → isHeading trace ≡ true → (range : ℕ) → range ≡ rangeOf trace → newCall range .board ≡ newBoard (rangeOf trace)
+opened-board trace heading range same =
+    ap (λ (n : ℕ). newBoard (cond (leb n 3) n 0)) same
     ∙ ap (λ (t : Bool). newBoard (cond t (rangeOf trace) 0)) (le-leb (rangeOf trace) 3 (heading-range trace heading))

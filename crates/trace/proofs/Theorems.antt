@@ -2,7 +2,7 @@
 use mathlib.Core.Bool.{true, false}
 use mathlib.Core.List.{List}
 use mathlib.Core.Path.{_≡_, refl, sym, ap, _∙_}
-use Prim.Native.Nat.{ℕ, _+_, _*_}
+use Prim.Native.Nat.{ℕ}
 use native.Mathlib.Omega.{arith}
 use lib.Dec.{eqb, leb}
 use borrow.Author.Tests.{ne-eqb}
@@ -12,7 +12,7 @@ use Rattle.analog.specs.declared.Answer.{Answer}
 use Rattle.analog.proofs.AnswerLaws.{none-first, some-first}
 use Rattle.pmc330_model.proofs.Cases.{and-left, and-right}
 use Rattle.pmc330_model.proofs.Theorems.{answersAgree}
-use Rattle.trace.specs.Fields.{isHeading, rangeOf, isCallField, fieldsOf}
+use Rattle.trace.specs.Fields.{isHeading, rangeOf, fieldsOf}
 use Rattle.trace.specs.Play.{traceQuestions, traceNumber, callsOf, callsAnswered, playedBuffer, inBuffer}
 use Rattle.trace.specs.Sentences.{EveryRefusedTrace, EveryAcceptedTrace, EveryWalk}
 use Rattle.trace.proofs.FieldLaws.{enough, fields-end, fields-step}

@@ -5,12 +5,12 @@ ghost use mathlib.Core.List.{_++_};
 ghost use lib.ListN.{length, drop};
 ghost use Rattle.analog.specs.Answers.{numberOf, valueOf};
 ghost use Rattle.pmc330_model.specs.Board.{boardCall};
+ghost use Rattle.pmc330_model.specs.Lent.{boardIn};
 ghost use Rattle.trace.specs.Grammar.{lengthOf, callOf, signedOf};
 ghost use Rattle.trace.specs.Play.{answerBytes};
 use crate::fields;
 use analog::Answer;
-use pmc330_model::Board;
-use pmc330_model::Reply;
+use pmc330::lent;
 
 // 32 bits as a two's complement number.
 fn signed(n: u32) -> i32
@@ -23,62 +23,112 @@ fn signed(n: u32) -> i32
     -1 - (below as i32)
 }
 
-fn read(board: Board, body: &[u8]) -> Reply
+fn read(
+    words: &[u32; 17],
+    inputs: &[i32; 32],
+    gains: &[u8; 32],
+    codes: &[u16; 32],
+    unread: &mut [u8; 32],
+    body: &[u8],
+) -> Answer
     requires { ⌜ length (now body) ≡ 3 ⌝ }
-    ensures { λ r. ⌜ r ≡ boardCall board (callOf 1 (now (body .entry))) ⌝ }
+    ensures answer { λ r. ⌜ r ≡ boardCall (boardIn (now (words .entry)) (now (inputs .entry)) (now (gains .entry)) (now (codes .entry)) (now (unread .entry))) (callOf 1 (now (body .entry))) .answer ⌝ }
+    ensures board { λ _. ⌜ boardIn (now (words .entry)) (now (inputs .entry)) (now (gains .entry)) (now (codes .entry)) (now (unread .exit)) ≡ boardCall (boardIn (now (words .entry)) (now (inputs .entry)) (now (gains .entry)) (now (codes .entry)) (now (unread .entry))) (callOf 1 (now (body .entry))) .board ⌝ }
 {
     let width = fields::number(&body[0..1]);
     let offset = fields::number(&body[1..3]);
-    pmc330::read(board, width, offset)
+    lent::read(words, inputs, gains, codes, unread, width, offset)
 }
 
-fn write(board: Board, body: &[u8]) -> Reply
+fn write(
+    words: &mut [u32; 17],
+    inputs: &[i32; 32],
+    gains: &mut [u8; 32],
+    codes: &[u16; 32],
+    unread: &mut [u8; 32],
+    body: &[u8],
+) -> Answer
     requires { ⌜ length (now body) ≡ 7 ⌝ }
-    ensures { λ r. ⌜ r ≡ boardCall board (callOf 2 (now (body .entry))) ⌝ }
+    ensures answer { λ r. ⌜ r ≡ boardCall (boardIn (now (words .entry)) (now (inputs .entry)) (now (gains .entry)) (now (codes .entry)) (now (unread .entry))) (callOf 2 (now (body .entry))) .answer ⌝ }
+    ensures board { λ _. ⌜ boardIn (now (words .exit)) (now (inputs .entry)) (now (gains .exit)) (now (codes .entry)) (now (unread .exit)) ≡ boardCall (boardIn (now (words .entry)) (now (inputs .entry)) (now (gains .entry)) (now (codes .entry)) (now (unread .entry))) (callOf 2 (now (body .entry))) .board ⌝ }
 {
     let width = fields::number(&body[0..1]);
     let offset = fields::number(&body[1..3]);
     let value = fields::number(&body[3..7]);
-    pmc330::write(board, width, offset, value)
+    lent::write(words, inputs, gains, codes, unread, width, offset, value)
 }
 
-fn input(board: Board, body: &[u8]) -> Reply
+fn input(
+    words: &[u32; 17],
+    inputs: &mut [i32; 32],
+    gains: &[u8; 32],
+    codes: &[u16; 32],
+    unread: &[u8; 32],
+    body: &[u8],
+) -> Answer
     requires { ⌜ length (now body) ≡ 5 ⌝ }
-    ensures { λ r. ⌜ r ≡ boardCall board (callOf 3 (now (body .entry))) ⌝ }
+    ensures answer { λ r. ⌜ r ≡ boardCall (boardIn (now (words .entry)) (now (inputs .entry)) (now (gains .entry)) (now (codes .entry)) (now (unread .entry))) (callOf 3 (now (body .entry))) .answer ⌝ }
+    ensures board { λ _. ⌜ boardIn (now (words .entry)) (now (inputs .exit)) (now (gains .entry)) (now (codes .entry)) (now (unread .entry)) ≡ boardCall (boardIn (now (words .entry)) (now (inputs .entry)) (now (gains .entry)) (now (codes .entry)) (now (unread .entry))) (callOf 3 (now (body .entry))) .board ⌝ }
 {
     let channel = fields::number(&body[0..1]);
     let voltage = fields::number(&body[1..5]);
-    pmc330::input(board, channel, signed(voltage))
+    lent::input(
+        words,
+        inputs,
+        gains,
+        codes,
+        unread,
+        channel,
+        signed(voltage),
+    )
 }
 
-fn advance(board: Board, body: &[u8]) -> Reply
+fn advance(
+    words: &mut [u32; 17],
+    inputs: &[i32; 32],
+    gains: &[u8; 32],
+    codes: &mut [u16; 32],
+    unread: &mut [u8; 32],
+    body: &[u8],
+) -> Answer
     requires { ⌜ length (now body) ≡ 4 ⌝ }
-    ensures { λ r. ⌜ r ≡ boardCall board (callOf 4 (now (body .entry))) ⌝ }
+    ensures answer { λ r. ⌜ r ≡ boardCall (boardIn (now (words .entry)) (now (inputs .entry)) (now (gains .entry)) (now (codes .entry)) (now (unread .entry))) (callOf 4 (now (body .entry))) .answer ⌝ }
+    ensures board { λ _. ⌜ boardIn (now (words .exit)) (now (inputs .entry)) (now (gains .entry)) (now (codes .exit)) (now (unread .exit)) ≡ boardCall (boardIn (now (words .entry)) (now (inputs .entry)) (now (gains .entry)) (now (codes .entry)) (now (unread .entry))) (callOf 4 (now (body .entry))) .board ⌝ }
 {
-    pmc330::advance(board, fields::number(&body[0..4]))
+    let ticks = fields::number(&body[0..4]);
+    lent::advance(words, inputs, gains, codes, unread, ticks)
 }
 
-// The call of a tag and a body. A tag that is no other call's is taken as reset.
-pub(crate) fn call(board: Board, tag: u8, body: &[u8]) -> Reply
+// The call of a tag and a body, on the board that is lent. A tag that is no other call's is taken as reset.
+pub(crate) fn call(
+    words: &mut [u32; 17],
+    inputs: &mut [i32; 32],
+    gains: &mut [u8; 32],
+    codes: &mut [u16; 32],
+    unread: &mut [u8; 32],
+    tag: u8,
+    body: &[u8],
+) -> Answer
     requires { ⌜ length (now body) ≡ lengthOf tag ⌝ }
-    ensures { λ r. ⌜ r ≡ boardCall board (callOf tag (now (body .entry))) ⌝ }
+    ensures answer { λ r. ⌜ r ≡ boardCall (boardIn (now (words .entry)) (now (inputs .entry)) (now (gains .entry)) (now (codes .entry)) (now (unread .entry))) (callOf tag (now (body .entry))) .answer ⌝ }
+    ensures board { λ _. ⌜ boardIn (now (words .exit)) (now (inputs .exit)) (now (gains .exit)) (now (codes .exit)) (now (unread .exit)) ≡ boardCall (boardIn (now (words .entry)) (now (inputs .entry)) (now (gains .entry)) (now (codes .entry)) (now (unread .entry))) (callOf tag (now (body .entry))) .board ⌝ }
 {
     if tag == 1 {
-        return read(board, body);
+        return read(words, inputs, gains, codes, unread, body);
     }
     if tag == 2 {
-        return write(board, body);
+        return write(words, inputs, gains, codes, unread, body);
     }
     if tag == 3 {
-        return input(board, body);
+        return input(words, inputs, gains, codes, unread, body);
     }
     if tag == 4 {
-        return advance(board, body);
+        return advance(words, inputs, gains, codes, unread, body);
     }
     if tag == 5 {
-        return pmc330::trigger(board);
+        return lent::trigger(words, inputs, gains, codes, unread);
     }
-    pmc330::reset(board)
+    lent::reset(words, inputs, gains, codes, unread)
 }
 
 fn number_of(answer: Answer) -> u8

@@ -16,17 +16,18 @@ pub enum Checked {
     Calls(usize),
 }
 
-// The length of the body by its tag, 00H to 06H.
-const LENGTHS: [usize; 7] = [5, 3, 7, 5, 4, 0, 0];
-
+// The length of the body by its tag: of a trigger, a reset and what has no row in the grammar it is 0.
 pub(crate) fn length_of(tag: u8) -> usize
     ensures { λ r. ⌜ (r ≡ lengthOf tag) × (r < 8) ⌝ }
 {
-    if tag < 7 {
-        let i = tag as usize;
-        return LENGTHS[i];
+    match tag {
+        0 => 5,
+        1 => 3,
+        2 => 7,
+        3 => 5,
+        4 => 4,
+        _ => 0,
     }
-    0
 }
 
 fn is_call_tag(tag: u8) -> bool

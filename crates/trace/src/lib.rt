@@ -4,28 +4,46 @@ mod fields;
 
 ghost use mathlib.Core.Path.{_≡_};
 ghost use lib.ListN.{length};
-ghost use Rattle.pmc330_model.specs.Board.{answersFrom};
+ghost use Rattle.pmc330_model.specs.Board.{answersFrom, newCall};
 ghost use Rattle.trace.specs.Play.{callsOf, inBuffer, playedResult, playedBuffer};
 ghost use Rattle.trace.specs.Machine.{Playable};
 use fields::Checked;
-use pmc330_model::Board;
+use pmc330::lent;
 
-// The calls of a checked trace, from a board on.
-fn play_calls(trace: &[u8], answers: &mut [u8], start: Board)
+// The calls of a checked trace, on a new board of a range. Its parts stay here, and are lent to each call.
+fn play_calls(trace: &[u8], answers: &mut [u8], range: u32)
     requires { ⌜ Playable (now trace) (length (now answers)) ⌝ }
-    ensures { λ r. ⌜ now (answers .exit) ≡ inBuffer (answersFrom start (callsOf (now (trace .entry)))) (now (answers .entry)) ⌝ }
+    ensures { λ r. ⌜ now (answers .exit) ≡ inBuffer (answersFrom (newCall range .board) (callsOf (now (trace .entry)))) (now (answers .entry)) ⌝ }
 {
-    let mut board = start;
+    let mut words = [0u32; 17];
+    let mut inputs = [0i32; 32];
+    let mut gains = [0u8; 32];
+    let mut codes = [0u16; 32];
+    let mut unread = [0u8; 32];
+    lent::new(
+        &mut words,
+        &mut inputs,
+        &mut gains,
+        &mut codes,
+        &mut unread,
+        range,
+    );
     let mut at: usize = 8;
     let mut done: usize = 0;
     while at < trace.len() {
         let tag = trace[at];
         let body = at + 3;
         let end = body + fields::length_of(tag);
-        let reply = calls::call(board, tag, &trace[body..end]);
-        let answer = reply.answer;
+        let answer = calls::call(
+            &mut words,
+            &mut inputs,
+            &mut gains,
+            &mut codes,
+            &mut unread,
+            tag,
+            &trace[body..end],
+        );
         calls::put(&mut answers[done..], answer);
-        board = reply.board;
         done += 5;
         at = end;
     }
@@ -49,8 +67,6 @@ pub fn play(trace: &[u8], answers: &mut [u8]) -> u64
     if answers.len() < 5 * n {
         return 20;
     }
-    let opened = pmc330::new(fields::wide(trace[7]));
-    let board = opened.board;
-    play_calls(trace, answers, board);
+    play_calls(trace, answers, fields::wide(trace[7]));
     256 * (n as u64)
 }

@@ -2,8 +2,7 @@
 use borrow.Author.Needs.{needs}
 use borrow.Author.Tests.{le-ltb, lt-ltb, not-true, not-false}
 use native.Mathlib.Omega.{arith}
-use mathlib.Core.Bool.{Bool, true, false}
-use mathlib.Core.Path.{_≡_, ap, sym, _∙_}
+use mathlib.Core.Path.{ap, sym, _∙_}
 use Rattle.analog.specs.Answers.{firstNo, answered}
 use Rattle.analog.specs.Correction.{correctedAnswer}
 use Rattle.analog.specs.declared.Answer.the-variants.{Accepted}

@@ -1,6 +1,6 @@
 -- A negative difference is 0, whose quotient is 0.
 use borrow.Author.Needs.{needs}
-use mathlib.Core.Path.{_≡_, sym}
+use mathlib.Core.Path.{_≡_}
 use Prim.Native.Nat.{_-_}
 use native.Mathlib.Nat.{zero-div}
 use native.Mathlib.Omega.{arith}

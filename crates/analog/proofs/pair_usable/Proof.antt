@@ -1,9 +1,7 @@
 -- The tests are the definition's, in its order.
 use borrow.Author.Needs.{needs}
 use borrow.Author.Tests.{le-leb, lt-leb, not-true, not-false}
-use mathlib.Core.Bool.{Bool, true, false}
-use mathlib.Core.Path.{_≡_, sym, _∙_}
-use Rattle.analog.specs.Correction.{isCalibration}
+use mathlib.Core.Path.{sym, _∙_}
 use Rattle.analog.proofs.pair_usable.Statement.{statement}
 use Rattle.analog.proofs.pair_usable.Tie as tie
 

@@ -1,30 +1,26 @@
--- Refused by 13, or the run of the definition.
+-- The board taken apart, the call in place, and the board that is put together.
 use borrow.Author.Needs.{needs}
-use mathlib.Core.Path.{_≡_, refl, sym, ap, ap₂, _∙_}
-use borrow.Author.Tests.{eq-eqb, ne-eqb, le-leb, lt-leb, not-true, not-false}
 use native.Mathlib.Omega.{arith}
-use Rattle.pmc330.proofs.ReplyLaws.{refused-reply, accepted-reply, advance-refused, advance-met}
-use Rattle.pmc330_model.specs.Board.{afterCall, valueOfCall}
-use Rattle.pmc330_model.specs.Questions.{callQuestions}
-use Rattle.pmc330_model.specs.Calls.{read, write, input, advance, trigger, reset}
-use Rattle.analog.specs.Answers.{firstNo, answered}
+use Rattle.pmc330_model.specs.Board.{advanceCall}
+use Rattle.pmc330.proofs.LentLaws.{by-value}
 use Rattle.pmc330.proofs.advance.Statement.{statement}
 use Rattle.pmc330.proofs.advance.Tie as tie
 
+taken-apart-requires : tie.Need-taken-apart-requires
+taken-apart-requires c κs = search needs
+
+advance-requires : tie.Need-advance-requires
+advance-requires c κs = search needs
+
+put-together-requires : tie.Need-put-together-requires
+put-together-requires c κs = search needs
+
 returns : tie.Need-returns
 returns c =
-    let a = c .before .args in
-    refused-reply (a .b) (advance (a .ticks)) 13 (advance-refused (a .b) (a .ticks) (c .if1 .taken)) (λ e. omega arith)
-
-advance-by-requires : tie.Need-advance-by-requires
-advance-by-requires c κs = search needs
-
-returns-2 : tie.Need-returns-2
-unfolding afterCall valueOfCall
-returns-2 c =
-    let a = c .before .before .before .args in
-    accepted-reply (a .b) (advance (a .ticks)) _ _ (advance-met (a .b) (a .ticks) (c .before .before .if1 .left)) (c .before .advance-by .ensures .board)
-    (c .before .advance-by .ensures .count)
+    let call = c .before .before in
+    let apart = call .before .before .before .before .before .before .before .before .before .before in
+    let start = apart .before in
+    by-value (start .args .b) (omega (arith, start .good)) (λ b. advanceCall b (start .args .ticks)) _ (apart .taken-apart .ensures) _ _ _ (call .advance .ensures .0) (call .advance .ensures .1 .0) (c .put-together .ensures)
 
 pub advance-spec : {M : Type 1} → statement M
-advance-spec = tie.close (tie.spec returns advance-by-requires returns-2)
+advance-spec = tie.close (tie.spec taken-apart-requires advance-requires put-together-requires returns)

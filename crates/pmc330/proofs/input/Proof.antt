@@ -1,62 +1,28 @@
--- Refused by 11 or 12, or the input is set.
+-- The board taken apart, the call in place, and the board that is put together.
 use borrow.Author.Needs.{needs}
-use mathlib.Core.List.{List}
-use Prim.Native.Nat.{ℕ, _%_, _≤_}
-use native.Mathlib.Nat.{mod-eq-of-lt}
 use native.Mathlib.Omega.{arith}
-use lib.IntN.{ℤ}
-use lib.ListN.{set}
-use Rattle.analog.specs.Answers.{firstNo}
-use Rattle.pmc330_model.specs.declared.Board.{Board}
-use mathlib.Core.Path.{_≡_, refl, sym, ap, ap₂, _∙_}
-use Rattle.pmc330.proofs.ReplyLaws.{refused-reply, accepted-reply, input-channel}
 use mir.Facts.{toZ-ofZ}
-use Rattle.pmc330_model.specs.Calls.{input}
-use Rattle.pmc330_model.specs.Questions.{callQuestions, inputQuestions}
-use Rattle.pmc330_model.specs.Board.{afterCall, valueOfCall}
+use Rattle.pmc330_model.specs.Board.{inputCall}
+use Rattle.pmc330.proofs.LentLaws.{by-value}
 use Rattle.pmc330.proofs.input.Statement.{statement}
 use Rattle.pmc330.proofs.input.Tie as tie
 
-input-number-requires : tie.Need-input-number-requires
-input-number-requires c κs = search needs
+taken-apart-requires : tie.Need-taken-apart-requires
+taken-apart-requires c κs = search needs
+
+input-requires : tie.Need-input-requires
+input-requires c κs = search needs
+
+put-together-requires : tie.Need-put-together-requires
+put-together-requires c κs = search needs
 
 returns : tie.Need-returns
-unfolding callQuestions afterCall valueOfCall
 returns c =
-    let a = c .before .before .args in
-    let same = toZ-ofZ (c .before .before .fits .microvolts) in
-    refused-reply (a .b) (input (a .channel) (a .microvolts)) (c .before .input-number .result)
-    (c .before .input-number .ensures ∙ ap (λ (v : ℤ). firstNo (inputQuestions (a .channel) v)) same)
-    (c .if1 .taken)
-
-cast-at : tie.Need-cast-at
-cast-at c = search needs
-
-mul-microvolts : tie.Need-mul-microvolts
-mul-microvolts c = search needs
-
-element-set-from-microvolts : tie.Need-element-set-from-microvolts
-element-set-from-microvolts c = search needs
-
-returns-2 : tie.Need-returns-2
-unfolding callQuestions afterCall valueOfCall
-returns-2 c =
-    let a = c .before .before .args in
-    let same = toZ-ofZ (c .before .before .fits .microvolts) in
-    let none : firstNo (inputQuestions (a .channel) (a .microvolts)) ≡ 0 = sym (c .before .input-number .ensures ∙ ap (λ (v : ℤ). firstNo (inputQuestions (a .channel) v)) same) ∙ c .if1 .left in
-    let low : a .channel ≤ 31 = input-channel (a .channel) (a .microvolts) none in
-    let at : List ℤ → Board = λ l. record { range = a .b .range; inputs = l; gains = a .b .gains; codes = a .b .codes; unread = a .b .unread; pending = a .b .pending; registers = a .b .registers; held = a .b .held; cycle = a .b .cycle } in
-    accepted-reply (a .b) (input (a .channel) (a .microvolts)) _ _ none
-    (ap₂ (λ (n : ℕ) (v : ℤ). at (set (a .b .inputs) n v)) (mod-eq-of-lt (omega arith)) same)
-    refl
+    let call = c .before .before in
+    let apart = call .before .before .before .before .before .before .before .before .before .before in
+    let start = apart .before in
+    let same = toZ-ofZ (start .fits .microvolts) in
+    by-value (start .args .b) (omega (arith, start .good)) (λ b. inputCall b (start .args .channel) (start .args .microvolts)) _ (apart .taken-apart .ensures) _ _ _ (rw same at (call .input .ensures .0)) (rw same at (call .input .ensures .1)) (c .put-together .ensures)
 
 pub input-spec : {M : Type 1} → statement M
-input-spec =
-    tie.close
-    (tie.spec
-    input-number-requires
-    returns
-    cast-at
-    mul-microvolts
-    element-set-from-microvolts
-    returns-2)
+input-spec = tie.close (tie.spec taken-apart-requires input-requires put-together-requires returns)

@@ -1,5 +1,4 @@
 -- The two tests.
-use mathlib.Core.Path.{_≡_, refl, sym, ap, ap₂, _∙_}
 use Rattle.pmc330.proofs.request_line.Statement.{statement}
 use Rattle.pmc330.proofs.request_line.Tie as tie
 

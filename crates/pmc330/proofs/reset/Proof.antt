@@ -1,20 +1,26 @@
--- Everything 0 but the range and the inputs.
+-- The board taken apart, the call in place, and the board that is put together.
 use borrow.Author.Needs.{needs}
-use mathlib.Core.Path.{_≡_, refl, sym, ap, ap₂, _∙_}
-use Rattle.pmc330.proofs.ReplyLaws.{accepted-reply}
-use Rattle.pmc330_model.specs.Board.{afterCall, valueOfCall}
-use Rattle.pmc330_model.specs.Questions.{callQuestions}
-use Rattle.pmc330_model.specs.Calls.{read, write, input, advance, trigger, reset}
-use Rattle.analog.specs.Answers.{firstNo, answered}
+use native.Mathlib.Omega.{arith}
+use Rattle.pmc330_model.specs.Board.{resetCall}
+use Rattle.pmc330.proofs.LentLaws.{by-value}
 use Rattle.pmc330.proofs.reset.Statement.{statement}
 use Rattle.pmc330.proofs.reset.Tie as tie
 
-cleared-requires : tie.Need-cleared-requires
-cleared-requires c κs = search needs
+taken-apart-requires : tie.Need-taken-apart-requires
+taken-apart-requires c κs = search needs
+
+reset-requires : tie.Need-reset-requires
+reset-requires c κs = search needs
+
+put-together-requires : tie.Need-put-together-requires
+put-together-requires c κs = search needs
 
 returns : tie.Need-returns
-unfolding callQuestions firstNo afterCall valueOfCall
-returns c = accepted-reply (c .before .before .args .b) reset _ _ refl (c .cleared .ensures) refl
+returns c =
+    let call = c .before .before in
+    let apart = call .before .before .before .before .before .before .before .before .before .before in
+    let start = apart .before in
+    by-value (start .args .b) (omega (arith, start .good)) resetCall _ (apart .taken-apart .ensures) _ _ _ (call .reset .ensures .0) (call .reset .ensures .1 .0) (c .put-together .ensures)
 
 pub reset-spec : {M : Type 1} → statement M
-reset-spec = tie.close (tie.spec cleared-requires returns)
+reset-spec = tie.close (tie.spec taken-apart-requires reset-requires put-together-requires returns)

@@ -1,20 +1,26 @@
--- No question is asked of a trigger.
+-- The board taken apart, the call in place, and the board that is put together.
 use borrow.Author.Needs.{needs}
-use mathlib.Core.Path.{_≡_, refl, sym, ap, ap₂, _∙_}
-use Rattle.pmc330.proofs.ReplyLaws.{accepted-reply}
-use Rattle.pmc330_model.specs.Board.{afterCall, valueOfCall}
-use Rattle.pmc330_model.specs.Questions.{callQuestions}
-use Rattle.pmc330_model.specs.Calls.{read, write, input, advance, trigger, reset}
-use Rattle.analog.specs.Answers.{firstNo, answered}
+use native.Mathlib.Omega.{arith}
+use Rattle.pmc330_model.specs.Board.{triggerCall}
+use Rattle.pmc330.proofs.LentLaws.{by-value}
 use Rattle.pmc330.proofs.trigger.Statement.{statement}
 use Rattle.pmc330.proofs.trigger.Tie as tie
 
-triggered-board-requires : tie.Need-triggered-board-requires
-triggered-board-requires c κs = search needs
+taken-apart-requires : tie.Need-taken-apart-requires
+taken-apart-requires c κs = search needs
+
+trigger-requires : tie.Need-trigger-requires
+trigger-requires c κs = search needs
+
+put-together-requires : tie.Need-put-together-requires
+put-together-requires c κs = search needs
 
 returns : tie.Need-returns
-unfolding callQuestions firstNo afterCall valueOfCall
-returns c = accepted-reply (c .before .args .b) trigger _ _ refl (c .triggered-board .ensures) refl
+returns c =
+    let call = c .before .before in
+    let apart = call .before .before .before .before .before .before .before .before .before .before in
+    let start = apart .before in
+    by-value (start .args .b) (omega (arith, start .good)) triggerCall _ (apart .taken-apart .ensures) _ _ _ (call .trigger .ensures .0) (call .trigger .ensures .1 .0) (c .put-together .ensures)
 
 pub trigger-spec : {M : Type 1} → statement M
-trigger-spec = tie.close (tie.spec triggered-board-requires returns)
+trigger-spec = tie.close (tie.spec taken-apart-requires trigger-requires put-together-requires returns)

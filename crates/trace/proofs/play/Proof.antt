@@ -83,37 +83,34 @@ returns-4 c =
     (p .number, p .bytes)
 
 shared-slice-read-wide : tie.Need-shared-slice-read-wide
-shared-slice-read-wide c = omega (arith, heading-length (trace (c .before .before)) (heading (c .before .before)))
+shared-slice-read-wide c = omega (arith, heading-length (trace (c .before .before .before)) (heading (c .before .before .before)))
 
 wide-requires : tie.Need-wide-requires
 wide-requires c κs = search needs
 
-new-requires : tie.Need-new-requires
-new-requires c κs = search needs
-
 play-calls-requires : tie.Need-play-calls-requires
 play-calls-requires c κs =
-    let k = c .before .before .before .before .before .before in
+    let k = c .before .before .before .before in
     record {
       long = heading-length (trace k) (heading k);
       undamaged = found k .0;
-      fits = omega (arith, found k .1, c .before .before .before .before .before .if3 .left);
+      fits = omega (arith, found k .1, c .before .before .before .if3 .left);
     }
 
 mul-result : tie.Need-mul-result
-mul-result c = omega (arith, most (c .before .before .before .before .before .before .before .before .before))
+mul-result c = omega (arith, most (c .before .before .before .before .before .before .before))
 
 same-length : tie.Need-same-length
 same-length c = search needs
 
 returns-5 : tie.Need-returns-5
 returns-5 c =
-    let k = c .before .before .before .before .before .before .before .before .before in
-    let a = c .before .before .before .before .before .before .before .before .before .before .before .before .before .before .before .before .before .before .args in
-    let p = accepted (a .trace .now) (a .answers .now) (number-0 (a .trace .now) (length (a .answers .now)) (short k) (heading k) (found k .0) (omega (arith, found k .1, c .before .before .before .before .before .before .before .before .if3 .left))) in (
+    let k = c .before .before .before .before .before .before .before in
+    let a = c .before .before .before .before .before .before .before .before .before .before .before .before .before .before .before .before .args in
+    let p = accepted (a .trace .now) (a .answers .now) (number-0 (a .trace .now) (length (a .answers .now)) (short k) (heading k) (found k .0) (omega (arith, found k .1, c .before .before .before .before .before .before .if3 .left))) in (
       ap (λ (m : ℕ). 256 * m) (found k .1) ∙ p .number,
       c .before .before .play-calls .ensures
-          ∙ ap (λ (b : Board). inBuffer (answersFrom b (callsOf (a .trace .now))) (a .answers .now)) (opened-board (a .trace .now) (heading k) _ _ (c .before .before .before .before .before .before .wide .ensures .0) (c .before .before .before .before .before .new .ensures))
+          ∙ ap (λ (b : Board). inBuffer (answersFrom b (callsOf (a .trace .now))) (a .answers .now)) (opened-board (a .trace .now) (heading k) _ (c .before .before .before .wide .ensures .0))
           ∙ p .bytes,
     )
 
@@ -132,7 +129,6 @@ play-spec =
     returns-4
     shared-slice-read-wide
     wide-requires
-    new-requires
     play-calls-requires
     mul-result
     same-length

@@ -1,20 +1,35 @@
--- The loop's invariant is `Playing`: what is written, with what the calls that are left will write, is what the whole trace writes.
+-- The loop's invariant is `Playing`, of the board that the lent parts hold: what is written, with what the calls that are left
+-- will write, is what the whole trace writes.
 use borrow.Author.Needs.{needs}
+use mathlib.Core.Path.{sym, subst}
 use Prim.Native.Nat.{_-_}
 use native.Mathlib.Omega.{arith}
 use lib.ListN.{length}
+use Rattle.pmc330_model.specs.Board.{newCall}
+use Rattle.pmc330_model.specs.Lent.{boardIn}
+use Rattle.pmc330_model.specs.declared.Board.{Board}
 use Rattle.trace.proofs.PlayLaws.{Playing, opening, Turn, turn, over}
 use Rattle.trace.proofs.play_calls.Statement.{statement}
 use Rattle.trace.proofs.play_calls.Tie as tie
 
 abbrev Inv-loop : tie.InvT-loop
-Inv-loop trace answers₀ board₀ at₀ done₀ answers board at done = Playing trace answers₀ board₀ answers board at done
+Inv-loop trace answers₀ range words₀ inputs₀ gains₀ codes₀ unread₀ at₀ done₀ answers words inputs gains codes unread at done =
+    Playing trace answers₀ (newCall range .board) answers (boardIn words inputs gains codes unread) at done
 
 abbrev μ-loop : tie.MeasureT-loop
-μ-loop trace answers₀ board₀ at₀ done₀ answers board at done = length trace - at
+μ-loop trace answers₀ range words₀ inputs₀ gains₀ codes₀ unread₀ at₀ done₀ answers words inputs gains codes unread at done =
+    length trace - at
+
+new-requires : tie.Need-new-requires Inv-loop μ-loop
+new-requires c κs = search needs
 
 loop-holds : tie.Need-loop-holds Inv-loop μ-loop
-loop-holds c = let start = c .before .before in opening (start .args .trace .now) (start .args .answers .now) (start .args .start) (start .pre)
+loop-holds c =
+    let start = c .before .before .before .before .before .before .before .before in
+    let opened = newCall (start .args .range) .board in
+    subst (λ (b : Board). Playing (start .args .trace .now) (start .args .answers .now) opened (start .args .answers .now) b 8 0)
+    (sym (c .new .ensures .1 .0))
+    (opening (start .args .trace .now) (start .args .answers .now) opened (start .pre))
 
 shared-slice-read-tag : tie.Need-shared-slice-read-tag Inv-loop μ-loop
 shared-slice-read-tag c = search needs
@@ -40,47 +55,60 @@ module _ (c : tie.After-length-of Inv-loop μ-loop) where
   a = c .before .before .before
 
   abbrev start : tie.Start Inv-loop μ-loop
-  start = a .before .before .before
+  start = a .before .before .before .before .before .before .before .before .before
 
-  the-turn : Turn (start .args .trace .now) (start .args .answers .now) (start .args .start) (a .loop .answers) (a .loop .board) (a .loop .at) (a .loop .done) (c .length-of .result)
+  abbrev now : Board
+  now = boardIn (a .loop .words) (a .loop .inputs) (a .loop .gains) (a .loop .codes) (a .loop .unread)
+
+  the-turn : Turn (start .args .trace .now) (start .args .answers .now) (newCall (start .args .range) .board) (a .loop .answers) now (a .loop .at) (a .loop .done) (c .length-of .result)
   the-turn =
-      turn (start .args .trace .now) (start .args .answers .now) (start .args .start) (a .loop .answers) (a .loop .board) (a .loop .at) (a .loop .done) (a .loop .inv)
+      turn (start .args .trace .now) (start .args .answers .now) (newCall (start .args .range) .board) (a .loop .answers) now (a .loop .at) (a .loop .done) (a .loop .inv)
       (c .before .before .loop-test .taken)
       (c .length-of .result)
       (c .length-of .ensures .0)
 
 part-call-end : tie.Need-part-call-end Inv-loop μ-loop
-part-call-end c = omega (arith, the-turn c .ends)
+part-call-end c = omega (arith, the-turn (c .before .before .before .before .before) .ends)
 
 call-requires : tie.Need-call-requires Inv-loop μ-loop
-call-requires c κs = the-turn (c .before) .body
+call-requires c κs = the-turn (c .before .before .before .before .before .before) .body
 
 sub-put : tie.Need-sub-put Inv-loop μ-loop
-sub-put c = omega (arith, the-turn (c .before .before) .room)
+sub-put c = omega (arith, the-turn (c .before .before .before .before .before .before .before) .room)
 
 part-put-start : tie.Need-part-put-start Inv-loop μ-loop
-part-put-start c = omega (arith, the-turn (c .before .before) .room)
+part-put-start c = omega (arith, the-turn (c .before .before .before .before .before .before .before) .room)
 
 part-put-end : tie.Need-part-put-end Inv-loop μ-loop
 part-put-end c = search needs
 
 put-requires : tie.Need-put-requires Inv-loop μ-loop
-put-requires c κs = the-turn (c .before .before .before) .left
+put-requires c κs = the-turn (c .before .before .before .before .before .before .before .before) .left
 
 add-done : tie.Need-add-done Inv-loop μ-loop
-add-done c = omega (arith, the-turn (c .before .before .before .before .before .before .before) .room)
+add-done c = omega (arith, the-turn (c .before .before .before .before .before .before .before .before .before .before .before) .room)
 
 loop-less : tie.Need-loop-less Inv-loop μ-loop
-loop-less c = omega (arith, the-turn (c .before .before .before .before .before .before .before) .ends)
+loop-less c = omega (arith, the-turn (c .before .before .before .before .before .before .before .before .before .before .before) .ends)
 
 loop-again : tie.Need-loop-again Inv-loop μ-loop
-loop-again c = the-turn (c .before .before .before .before .before .before .before) .next _ _ (c .before .before .before .before .before .call .ensures) (c .before .before .before .put .ensures)
+loop-again c =
+    let call = c .before .before .before .before .call in
+    the-turn (c .before .before .before .before .before .before .before .before .before .before .before) .next _ _ (λ i. record { board = call .ensures .1 i; answer = call .ensures .0 i }) (c .before .before .put .ensures)
 
 same-length : tie.Need-same-length Inv-loop μ-loop
 same-length c = c .before .loop .inv .same
 
 returns : tie.Need-returns Inv-loop μ-loop
-returns c = let a = c .before in let start = a .before .before .before in over (start .args .trace .now) (start .args .answers .now) (start .args .start) (a .loop .answers) (a .loop .board) (a .loop .at) (a .loop .done) (a .loop .inv) (c .loop-test .left)
+returns c =
+    let a = c .before in
+    let start = a .before .before .before .before .before .before .before .before .before in
+    over (start .args .trace .now) (start .args .answers .now) (newCall (start .args .range) .board) (a .loop .answers)
+    (boardIn (a .loop .words) (a .loop .inputs) (a .loop .gains) (a .loop .codes) (a .loop .unread))
+    (a .loop .at)
+    (a .loop .done)
+    (a .loop .inv)
+    (c .loop-test .left)
 
 pub play-calls-spec : {M : Type 1} → statement M
 play-calls-spec =
@@ -88,6 +116,7 @@ play-calls-spec =
     (tie.spec
     Inv-loop
     μ-loop
+    new-requires
     loop-holds
     shared-slice-read-tag
     add-body

@@ -1,11 +1,7 @@
 -- Each part is the definition's.
-use borrow.Author.Needs.{needs}
-use borrow.Author.Tests.{lt-ltb, le-ltb, not-true, not-false}
-use Prim.Native.Nat.{_+_, _≤_}
-use Rattle.pmc330_model.specs.Schedule.{passLength}
-use mathlib.Core.Path.{_≡_, sym, ap, _∙_}
-use native.Mathlib.Omega.{arith}
+use Prim.Native.Nat.{_+_}
 use Rattle.pmc330.proofs.CycleLaws.{place-kept}
+use borrow.Author.Needs.{needs}
 use Rattle.pmc330.proofs.cycle.begun_cycle.Statement.{statement}
 use Rattle.pmc330.proofs.cycle.begun_cycle.Tie as tie
 
@@ -15,11 +11,8 @@ cast-place c = search needs
 add-place : tie.Need-add-place
 add-place c = search needs
 
-pass-length-requires : tie.Need-pass-length-requires
-pass-length-requires c κs = search needs
-
-lead-after-requires : tie.Need-lead-after-requires
-lead-after-requires c κs = search needs
+lead-of-requires : tie.Need-lead-of-requires
+lead-of-requires c κs = search needs
 
 slot-at-requires : tie.Need-slot-at-requires
 slot-at-requires c κs = search needs
@@ -33,14 +26,12 @@ parity-after-requires c κs = search needs
 returns : tie.Need-returns
 returns c =
     let start = c .before .before .before .before .before .before in
-    let most : passLength (start .args .r) ≤ 256 = omega (arith, start .good) in
     simp (
       c .parity-after .ensures,
       c .before .place-after .ensures,
       c .before .before .slot-at .ensures,
-      c .before .before .before .lead-after .ensures,
-      c .before .before .before .before .pass-length .ensures,
-      place-kept (passLength (start .args .r)) (start .args .c .index + 1) most,
+      c .before .before .before .lead-of .ensures,
+      place-kept (start .args .p .length) (start .args .c .index + 1) (start .pre),
     )
 
 pub begun-cycle-spec : {M : Type 1} → statement M
@@ -49,8 +40,7 @@ begun-cycle-spec =
     (tie.spec
     cast-place
     add-place
-    pass-length-requires
-    lead-after-requires
+    lead-of-requires
     slot-at-requires
     place-after-requires
     parity-after-requires

@@ -1,6 +1,6 @@
 -- The code of that voltage at the channel's gain.
 use borrow.Author.Needs.{needs}
-use mathlib.Core.Path.{_≡_, sym, ap, _∙_}
+use mathlib.Core.Path.{_∙_}
 use mir.Facts.{toZ-ofZ}
 use mir.Syntax.{w32}
 use Rattle.pmc330.proofs.cycle.code_at.Statement.{statement}

@@ -1,6 +1,6 @@
 -- The mode is the definition's.
 use borrow.Author.Needs.{needs}
-use mathlib.Core.Path.{_≡_, sym, ap, _∙_}
+use mathlib.Core.Path.{sym, _∙_}
 use Rattle.pmc330.proofs.cycle.is_last.Statement.{statement}
 use Rattle.pmc330.proofs.cycle.is_last.Tie as tie
 

@@ -1,8 +1,8 @@
 -- The cases of the definition, in the order of the tests.
 use borrow.Author.Needs.{needs}
-use borrow.Author.Tests.{lt-ltb, le-ltb, not-true, not-false}
+use borrow.Author.Tests.{not-true, not-false}
 use Prim.Native.Nat.{_≤_}
-use mathlib.Core.Path.{_≡_, sym, ap, _∙_}
+use mathlib.Core.Path.{sym, _∙_}
 use native.Mathlib.Omega.{arith}
 use Rattle.pmc330.proofs.CycleLaws.{delay-most}
 use Rattle.pmc330.proofs.cycle.lead_after.Statement.{statement}

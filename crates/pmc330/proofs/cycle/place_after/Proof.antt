@@ -1,6 +1,5 @@
 -- The two cases.
 use borrow.Author.Needs.{needs}
-use mathlib.Core.Path.{_≡_, sym, ap, _∙_}
 use Rattle.pmc330.proofs.cycle.place_after.Statement.{statement}
 use Rattle.pmc330.proofs.cycle.place_after.Tie as tie
 

@@ -1,6 +1,6 @@
 -- The input, or the calibration voltage.
 use borrow.Author.Needs.{needs}
-use borrow.Author.Tests.{lt-ltb, le-ltb, not-true, not-false}
+use borrow.Author.Tests.{lt-ltb, le-ltb}
 use borrow.Author.Needs.{sfits-of}
 use lib.Dec.{ltb}
 use Prim.Native.Nat.{ℕ, _<_}
@@ -8,9 +8,8 @@ use mir.ValLaws.{toZ-pos}
 use mir.Syntax.{w32}
 use mir.Facts.{toZ-ofZ}
 use Rattle.analog.proofs.Ranges.{calibration-bound}
-use mathlib.Core.Path.{_≡_, sym, ap, _∙_}
+use mathlib.Core.Path.{sym, ap, _∙_}
 use native.Mathlib.Omega.{arith}
-use lib.IntN.{pos}
 use Rattle.pmc330.proofs.cycle.voltage_at.Statement.{statement}
 use Rattle.pmc330.proofs.cycle.voltage_at.Tie as tie
 

@@ -1,7 +1,7 @@
 -- The tests are those of the definition.
 use borrow.Author.Needs.{needs}
-use borrow.Author.Tests.{eq-eqb, ne-eqb, not-true, not-false}
-use mathlib.Core.Path.{_≡_, sym, ap, _∙_}
+use borrow.Author.Tests.{ne-eqb, not-true, not-false}
+use mathlib.Core.Path.{sym, ap, _∙_}
 use Rattle.pmc330.proofs.fields.burst_delay.Statement.{statement}
 use Rattle.pmc330.proofs.fields.burst_delay.Tie as tie
 

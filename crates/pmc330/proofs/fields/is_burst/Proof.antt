@@ -1,6 +1,5 @@
 -- The field is the definition's.
 use borrow.Author.Needs.{needs}
-use mathlib.Core.Path.{_≡_, sym, ap, _∙_}
 use Rattle.pmc330.proofs.fields.is_burst.Statement.{statement}
 use Rattle.pmc330.proofs.fields.is_burst.Tie as tie
 

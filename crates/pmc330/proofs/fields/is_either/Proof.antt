@@ -1,5 +1,5 @@
 -- The two tests are those of the promise.
-use borrow.Author.Tests.{eq-eqb, ne-eqb, not-true, not-false}
+use borrow.Author.Tests.{eq-eqb, ne-eqb}
 use Rattle.pmc330.proofs.fields.is_either.Statement.{statement}
 use Rattle.pmc330.proofs.fields.is_either.Tie as tie
 

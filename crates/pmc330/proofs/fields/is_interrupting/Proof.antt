@@ -1,7 +1,7 @@
 -- The tests are those of the definition.
 use borrow.Author.Needs.{needs}
-use mathlib.Core.Path.{_≡_, sym, ap, _∙_}
-use borrow.Author.Tests.{eq-eqb, ne-eqb, not-true, not-false}
+use mathlib.Core.Path.{sym, _∙_}
+use borrow.Author.Tests.{ne-eqb}
 use Rattle.pmc330.proofs.fields.is_interrupting.Statement.{statement}
 use Rattle.pmc330.proofs.fields.is_interrupting.Tie as tie
 

@@ -1,7 +1,6 @@
 -- Uniform or burst.
 use borrow.Author.Needs.{needs}
-use mathlib.Core.Path.{_≡_, sym, ap, _∙_}
-use borrow.Author.Tests.{eq-eqb, ne-eqb, not-true, not-false}
+use mathlib.Core.Path.{sym, _∙_}
 use Rattle.pmc330.proofs.fields.is_timed.Statement.{statement}
 use Rattle.pmc330.proofs.fields.is_timed.Tie as tie
 

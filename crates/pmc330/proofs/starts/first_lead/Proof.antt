@@ -1,6 +1,6 @@
 -- The mode is the definition's.
 use borrow.Author.Needs.{needs}
-use mathlib.Core.Path.{_≡_, refl, sym, ap, ap₂, _∙_}
+use mathlib.Core.Path.{sym, _∙_}
 use Rattle.pmc330.proofs.starts.first_lead.Statement.{statement}
 use Rattle.pmc330.proofs.starts.first_lead.Tie as tie
 

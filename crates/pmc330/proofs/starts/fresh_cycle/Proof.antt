@@ -1,6 +1,5 @@
 -- The lead is the definition's.
 use borrow.Author.Needs.{needs}
-use mathlib.Core.Path.{_≡_, refl, sym, ap, ap₂, _∙_}
 use Rattle.pmc330.proofs.starts.fresh_cycle.Statement.{statement}
 use Rattle.pmc330.proofs.starts.fresh_cycle.Tie as tie
 

@@ -1,6 +1,6 @@
 -- The format is the definition's.
 use borrow.Author.Needs.{needs}
-use mathlib.Core.Path.{_≡_, refl, sym, ap, _∙_}
+use mathlib.Core.Path.{_∙_}
 use Rattle.pmc330.proofs.stores.formatted_by.Statement.{statement}
 use Rattle.pmc330.proofs.stores.formatted_by.Tie as tie
 

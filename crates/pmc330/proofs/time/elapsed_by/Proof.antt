@@ -1,6 +1,5 @@
 -- Both countdowns go down.
 use borrow.Author.Needs.{needs}
-use mathlib.Core.Path.{_≡_, refl, sym, ap, ap₂, _∙_}
 use Rattle.pmc330.proofs.time.elapsed_by.Statement.{statement}
 use Rattle.pmc330.proofs.time.elapsed_by.Tie as tie
 

@@ -1,6 +1,6 @@
 -- The three cases.
-use mathlib.Core.Path.{_≡_, refl, sym, ap, ap₂, _∙_}
-use borrow.Author.Tests.{eq-eqb, ne-eqb, not-true, not-false}
+use mathlib.Core.Path.{sym}
+use borrow.Author.Tests.{eq-eqb, ne-eqb}
 use native.Mathlib.Nat.{min-eq-left, min-eq-right, le-of-lt}
 use Rattle.pmc330.proofs.time.nearer.Statement.{statement}
 use Rattle.pmc330.proofs.time.nearer.Tie as tie

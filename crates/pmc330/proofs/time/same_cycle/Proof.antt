@@ -1,8 +1,6 @@
 -- Each test shows its field the same.
 use borrow.Author.Needs.{needs}
-use mathlib.Core.Path.{_≡_, refl, sym, ap, _∙_}
-use mathlib.Core.Bool.{Bool, true, false, false≢true}
-use borrow.Author.Tests.{not-true, not-false}
+use mathlib.Core.Bool.{true, false, false≢true}
 use Rattle.pmc330.proofs.TimeLaws.{cycle-same}
 use Rattle.pmc330.proofs.time.same_cycle.Statement.{statement}
 use Rattle.pmc330.proofs.time.same_cycle.Tie as tie

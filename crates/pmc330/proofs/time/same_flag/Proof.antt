@@ -1,6 +1,5 @@
 -- The four cases.
-use mathlib.Core.Path.{_≡_, refl, sym, ap, _∙_}
-use mathlib.Core.Bool.{Bool, true, false, false≢true}
+use mathlib.Core.Path.{sym, _∙_}
 use borrow.Author.Tests.{not-true}
 use Rattle.pmc330.proofs.time.same_flag.Statement.{statement}
 use Rattle.pmc330.proofs.time.same_flag.Tie as tie

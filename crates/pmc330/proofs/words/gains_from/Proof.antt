@@ -7,10 +7,10 @@ use Rattle.pmc330.proofs.words.gains_from.Statement.{statement}
 use Rattle.pmc330.proofs.words.gains_from.Tie as tie
 
 abbrev Inv-loop : tie.InvT-loop
-Inv-loop first word next₀ rest₀ i₀ next rest i = Storing first word next₀ next rest i
+Inv-loop gains₀ first word rest₀ i₀ gains rest i = Storing first word gains₀ gains rest i
 
 abbrev μ-loop : tie.MeasureT-loop
-μ-loop first word next₀ rest₀ i₀ next rest i = 8 - i
+μ-loop gains₀ first word rest₀ i₀ gains rest i = 8 - i
 
 loop-holds : tie.Need-loop-holds Inv-loop μ-loop
 loop-holds c = storing-start _ _ _
@@ -18,11 +18,11 @@ loop-holds c = storing-start _ _ _
 add-at : tie.Need-add-at Inv-loop μ-loop
 add-at c = omega arith
 
-cast-next : tie.Need-cast-next Inv-loop μ-loop
-cast-next c = omega arith
+cast-gains : tie.Need-cast-gains Inv-loop μ-loop
+cast-gains c = omega arith
 
-array-write-next : tie.Need-array-write-next Inv-loop μ-loop
-array-write-next c = search needs
+element-write-gains : tie.Need-element-write-gains Inv-loop μ-loop
+element-write-gains c = search needs
 
 add-i : tie.Need-add-i Inv-loop μ-loop
 add-i c = omega arith
@@ -44,8 +44,8 @@ gains-from-spec =
     μ-loop
     loop-holds
     add-at
-    cast-next
-    array-write-next
+    cast-gains
+    element-write-gains
     add-i
     loop-less
     loop-again

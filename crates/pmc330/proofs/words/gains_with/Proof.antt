@@ -16,10 +16,10 @@ gains-from-requires : tie.Need-gains-from-requires
 gains-from-requires c κs = search needs
 
 returns : tie.Need-returns
-returns c = c .gains-from .ensures ∙ rw (gain-class _ (c .before .before .if1 .left) (c .before .if2 .taken))
+returns c = sym (gains-elsewhere _ _ _ (λ h. omega arith))
 
 returns-2 : tie.Need-returns-2
-returns-2 c = sym (gains-elsewhere _ _ _ (λ h. omega arith))
+returns-2 c = c .gains-from .ensures ∙ rw (gain-class _ (c .before .before .before .if1 .left) (c .before .before .if2 .taken))
 
 returns-3 : tie.Need-returns-3
 returns-3 c = sym (gains-elsewhere _ _ _ (λ h. c .if2 .left))

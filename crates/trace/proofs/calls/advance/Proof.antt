@@ -1,10 +1,12 @@
 -- By the board's promise, with the number of the body.
-use borrow.Author.Needs.{needs}
-use mathlib.Core.Path.{ap, _∙_}
+use mathlib.Core.Path.{ap}
+use Rattle.pmc330_model.specs.Calls.{advance}
 use Prim.Native.Nat.{ℕ}
 use Rattle.pmc330_model.specs.Board.{boardCall}
-use Rattle.pmc330_model.specs.Calls.{advance}
+use Rattle.pmc330_model.specs.Lent.{boardIn}
 use Rattle.trace.specs.Grammar.{callOf}
+use Rattle.trace.proofs.CallLaws.{replied}
+use borrow.Author.Needs.{needs}
 use Rattle.trace.proofs.calls.advance.Statement.{statement}
 use Rattle.trace.proofs.calls.advance.Tie as tie
 
@@ -26,8 +28,9 @@ advance-requires c κs = search needs
 returns : tie.Need-returns
 unfolding callOf
 returns c =
-    let b = c .before .before .before .before .args .board in
-    c .advance .ensures ∙ ap (λ (n : ℕ). boardCall b (advance n)) (c .before .number .ensures)
+    let a = c .before .before .before .before .before .before .before .args in
+    let b = boardIn (a .words .now) (a .inputs .now) (a .gains .now) (a .codes .now) (a .unread .now) in
+    replied (ap (λ (n : ℕ). boardCall b (advance n)) (c .before .before .before .before .number .ensures)) (c .advance .ensures .0) (c .advance .ensures .1 .0)
 
 pub advance-spec : {M : Type 1} → statement M
 advance-spec =

@@ -1,55 +1,68 @@
 -- Each tag is its call. The length of the body is its tag's.
-use borrow.Author.Needs.{needs}
-use mathlib.Core.Path.{sym, ap, _∙_}
-use Prim.Native.Nat.{ℕ}
 use borrow.Author.Tests.{ne-eqb}
-use Rattle.pmc330_model.specs.Board.{boardCall}
-use Rattle.pmc330_model.specs.Calls.{read, write, input, advance, trigger, reset}
+use mathlib.Core.Path.{sym, ap, _∙_}
+use Rattle.pmc330_model.specs.Calls.{trigger, reset}
+use Rattle.pmc330_model.specs.Lent.{boardIn}
 use Rattle.trace.specs.Grammar.{callOf, lengthOf, lengthIn}
+use Rattle.trace.proofs.CallLaws.{replied, same-tag}
+use borrow.Author.Needs.{needs}
 use Rattle.trace.proofs.calls.call.Statement.{statement}
 use Rattle.trace.proofs.calls.call.Tie as tie
 
 read-requires : tie.Need-read-requires
 unfolding lengthOf lengthIn
-read-requires c κs = c .before .before .pre ∙ ap lengthOf (c .if1 .taken)
+read-requires c κs = c .before .before .before .before .before .before .before .pre ∙ ap lengthOf (c .before .before .before .before .before .if1 .taken)
 
 returns : tie.Need-returns
-returns c = c .read .ensures ∙ ap (λ (t : ℕ). boardCall (c .before .before .before .args .board) (callOf t (c .before .before .before .args .body .now))) (sym (c .before .if1 .taken))
+returns c =
+    let a = c .before .before .before .before .before .before .before .before .args in
+    replied (same-tag (boardIn (a .words .now) (a .inputs .now) (a .gains .now) (a .codes .now) (a .unread .now)) (a .body .now) (sym (c .before .before .before .before .before .before .if1 .taken))) (c .read .ensures .0) (c .read .ensures .1)
 
 write-requires : tie.Need-write-requires
 unfolding lengthOf lengthIn
-write-requires c κs = c .before .before .before .pre ∙ ap lengthOf (c .if2 .taken)
+write-requires c κs = c .before .before .before .before .before .before .before .before .pre ∙ ap lengthOf (c .before .before .before .before .before .if2 .taken)
 
 returns-2 : tie.Need-returns-2
-returns-2 c = c .write .ensures ∙ ap (λ (t : ℕ). boardCall (c .before .before .before .before .args .board) (callOf t (c .before .before .before .before .args .body .now))) (sym (c .before .if2 .taken))
+returns-2 c =
+    let a = c .before .before .before .before .before .before .before .before .before .args in
+    replied (same-tag (boardIn (a .words .now) (a .inputs .now) (a .gains .now) (a .codes .now) (a .unread .now)) (a .body .now) (sym (c .before .before .before .before .before .before .if2 .taken))) (c .write .ensures .0) (c .write .ensures .1)
 
 input-requires : tie.Need-input-requires
 unfolding lengthOf lengthIn
-input-requires c κs = c .before .before .before .before .pre ∙ ap lengthOf (c .if3 .taken)
+input-requires c κs = c .before .before .before .before .before .before .before .before .before .pre ∙ ap lengthOf (c .before .before .before .before .before .if3 .taken)
 
 returns-3 : tie.Need-returns-3
-returns-3 c = c .input .ensures ∙ ap (λ (t : ℕ). boardCall (c .before .before .before .before .before .args .board) (callOf t (c .before .before .before .before .before .args .body .now))) (sym (c .before .if3 .taken))
+returns-3 c =
+    let a = c .before .before .before .before .before .before .before .before .before .before .args in
+    replied (same-tag (boardIn (a .words .now) (a .inputs .now) (a .gains .now) (a .codes .now) (a .unread .now)) (a .body .now) (sym (c .before .before .before .before .before .before .if3 .taken))) (c .input .ensures .0) (c .input .ensures .1)
 
 advance-requires : tie.Need-advance-requires
 unfolding lengthOf lengthIn
-advance-requires c κs = c .before .before .before .before .before .pre ∙ ap lengthOf (c .if4 .taken)
+advance-requires c κs = c .before .before .before .before .before .before .before .before .before .before .pre ∙ ap lengthOf (c .before .before .before .before .before .if4 .taken)
 
 returns-4 : tie.Need-returns-4
-returns-4 c = c .advance .ensures ∙ ap (λ (t : ℕ). boardCall (c .before .before .before .before .before .before .args .board) (callOf t (c .before .before .before .before .before .before .args .body .now))) (sym (c .before .if4 .taken))
+returns-4 c =
+    let a = c .before .before .before .before .before .before .before .before .before .before .before .args in
+    replied (same-tag (boardIn (a .words .now) (a .inputs .now) (a .gains .now) (a .codes .now) (a .unread .now)) (a .body .now) (sym (c .before .before .before .before .before .before .if4 .taken))) (c .advance .ensures .0) (c .advance .ensures .1)
 
 trigger-requires : tie.Need-trigger-requires
 trigger-requires c κs = search needs
 
 returns-5 : tie.Need-returns-5
 unfolding callOf
-returns-5 c = c .trigger .ensures ∙ ap (λ (t : ℕ). boardCall (c .before .before .before .before .before .before .before .args .board) (callOf t (c .before .before .before .before .before .before .before .args .body .now))) (sym (c .before .if5 .taken))
+returns-5 c =
+    let a = c .before .before .before .before .before .before .before .before .before .before .before .before .args in
+    replied (same-tag (boardIn (a .words .now) (a .inputs .now) (a .gains .now) (a .codes .now) (a .unread .now)) (a .body .now) (sym (c .before .before .before .before .before .before .if5 .taken))) (c .trigger .ensures .0) (c .trigger .ensures .1 .0)
 
 reset-requires : tie.Need-reset-requires
 reset-requires c κs = search needs
 
 returns-6 : tie.Need-returns-6
 unfolding callOf
-returns-6 c = c .reset .ensures ∙ rw (ne-eqb _ 1 (c .before .before .before .before .before .if1 .left), ne-eqb _ 2 (c .before .before .before .before .if2 .left), ne-eqb _ 3 (c .before .before .before .if3 .left), ne-eqb _ 4 (c .before .before .if4 .left), ne-eqb _ 5 (c .before .if5 .left))
+returns-6 c =
+    let a = c .before .before .before .before .before .before .before .before .before .before .before .before .args in
+    rw (ne-eqb (a .tag) 1 (c .before .before .before .before .before .before .before .before .before .before .if1 .left), ne-eqb (a .tag) 2 (c .before .before .before .before .before .before .before .before .before .if2 .left), ne-eqb (a .tag) 3 (c .before .before .before .before .before .before .before .before .if3 .left), ne-eqb (a .tag) 4 (c .before .before .before .before .before .before .before .if4 .left), ne-eqb (a .tag) 5 (c .before .before .before .before .before .before .if5 .left))
+    (c .reset .ensures .0, c .reset .ensures .1 .0)
 
 pub call-spec : {M : Type 1} → statement M
 call-spec =

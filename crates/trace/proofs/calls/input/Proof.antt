@@ -1,13 +1,16 @@
 -- By the board's promise, with the numbers of the body.
-use borrow.Author.Needs.{needs}
 use mathlib.Core.Path.{ap, ap₂, _∙_}
-use Prim.Native.Nat.{ℕ}
 use mir.Facts.{toZ-ofZ}
 use mir.Syntax.{w32}
 use lib.IntN.{ℤ}
-use Rattle.pmc330_model.specs.Board.{boardCall}
 use Rattle.pmc330_model.specs.Calls.{input}
-use Rattle.trace.specs.Grammar.{callOf, signedOf}
+use Rattle.trace.specs.Grammar.{signedOf}
+use Prim.Native.Nat.{ℕ}
+use Rattle.pmc330_model.specs.Board.{boardCall}
+use Rattle.pmc330_model.specs.Lent.{boardIn}
+use Rattle.trace.specs.Grammar.{callOf}
+use Rattle.trace.proofs.CallLaws.{replied}
+use borrow.Author.Needs.{needs}
 use Rattle.trace.proofs.calls.input.Statement.{statement}
 use Rattle.trace.proofs.calls.input.Tie as tie
 
@@ -44,10 +47,13 @@ input-requires c κs = search needs
 returns : tie.Need-returns
 unfolding callOf
 returns c =
-    let b = c .before .before .before .before .before .before .before .args .board in
+    let a = c .before .before .before .before .before .before .before .before .args in
+    let b = boardIn (a .words .now) (a .inputs .now) (a .gains .now) (a .codes .now) (a .unread .now) in
     let same = toZ-ofZ {w = w32} {z = c .before .signed .result} (search needs) in
-    c .input .ensures
-    ∙ ap₂ (λ (n : ℕ) (z : ℤ). boardCall b (input n z)) (c .before .before .before .before .number .ensures) (same ∙ c .before .signed .ensures ∙ ap signedOf (c .before .before .number2 .ensures))
+    replied
+    (ap₂ (λ (n : ℕ) (z : ℤ). boardCall b (input n z)) (c .before .before .before .before .before .number .ensures) (same ∙ c .before .signed .ensures ∙ ap signedOf (c .before .before .before .number2 .ensures)))
+    (c .input .ensures .0)
+    (c .input .ensures .1)
 
 pub input-spec : {M : Type 1} → statement M
 input-spec =

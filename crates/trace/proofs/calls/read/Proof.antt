@@ -1,10 +1,12 @@
 -- By the board's promise, with the numbers of the body.
-use borrow.Author.Needs.{needs}
-use mathlib.Core.Path.{ap₂, _∙_}
+use mathlib.Core.Path.{ap₂}
+use Rattle.pmc330_model.specs.Calls.{read}
 use Prim.Native.Nat.{ℕ}
 use Rattle.pmc330_model.specs.Board.{boardCall}
-use Rattle.pmc330_model.specs.Calls.{read}
+use Rattle.pmc330_model.specs.Lent.{boardIn}
 use Rattle.trace.specs.Grammar.{callOf}
+use Rattle.trace.proofs.CallLaws.{replied}
+use borrow.Author.Needs.{needs}
 use Rattle.trace.proofs.calls.read.Statement.{statement}
 use Rattle.trace.proofs.calls.read.Tie as tie
 
@@ -38,8 +40,11 @@ read-requires c κs = search needs
 returns : tie.Need-returns
 unfolding callOf
 returns c =
-    let b = c .before .before .before .before .before .before .args .board in
-    c .read .ensures ∙ ap₂ (λ (w o : ℕ). boardCall b (read w o)) (c .before .before .before .number .ensures) (c .before .number2 .ensures)
+    let a = c .before .before .before .before .before .before .before .args in
+    let b = boardIn (a .words .now) (a .inputs .now) (a .gains .now) (a .codes .now) (a .unread .now) in
+    replied (ap₂ (λ (w o : ℕ). boardCall b (read w o)) (c .before .before .before .before .number .ensures) (c .before .before .number2 .ensures))
+    (c .read .ensures .0)
+    (c .read .ensures .1)
 
 pub read-spec : {M : Type 1} → statement M
 read-spec =

@@ -1,10 +1,10 @@
 -- By the board's promise, with the numbers of the body.
-use borrow.Author.Needs.{needs}
-use mathlib.Core.Path.{ap, ap₂, _∙_}
-use Prim.Native.Nat.{ℕ}
-use Rattle.pmc330_model.specs.Board.{boardCall}
 use Rattle.pmc330_model.specs.Calls.{write}
-use Rattle.trace.specs.Grammar.{numberAt, callOf}
+use Rattle.pmc330_model.specs.Board.{boardCall}
+use Rattle.pmc330_model.specs.Lent.{boardIn}
+use Rattle.trace.specs.Grammar.{callOf}
+use Rattle.trace.proofs.CallLaws.{replied}
+use borrow.Author.Needs.{needs}
 use Rattle.trace.proofs.calls.write.Statement.{statement}
 use Rattle.trace.proofs.calls.write.Tie as tie
 
@@ -50,10 +50,11 @@ write-requires c κs = search needs
 returns : tie.Need-returns
 unfolding callOf
 returns c =
-    let a = c .before .before .before .before .before .before .before .before .args in
-    c .write .ensures
-    ∙ ap (λ (v : ℕ). boardCall (a .board) (write (c .before .before .before .before .before .number .result) (c .before .before .before .number2 .result) v)) (c .before .number3 .ensures)
-    ∙ ap₂ (λ (w o : ℕ). boardCall (a .board) (write w o (numberAt 3 4 (a .body .now)))) (c .before .before .before .before .before .number .ensures) (c .before .before .before .number2 .ensures)
+    let a = c .before .before .before .before .before .before .before .before .before .before .before .args in
+    let b = boardIn (a .words .now) (a .inputs .now) (a .gains .now) (a .codes .now) (a .unread .now) in
+    replied (λ i. boardCall b (write (c .before .before .before .before .before .before .before .before .number .ensures i) (c .before .before .before .before .before .before .number2 .ensures i) (c .before .before .before .before .number3 .ensures i)))
+    (c .write .ensures .0)
+    (c .write .ensures .1 .0)
 
 pub write-spec : {M : Type 1} → statement M
 write-spec =
