@@ -17,6 +17,7 @@ fn main() {
             archive.display()
         );
     }
+    link_header();
     println!("cargo:rustc-link-search=native={}", folder.display());
     println!("cargo:rustc-link-lib=static=pmc330_c");
     match env::var("PMC330_OLD_ARCHIVE") {
@@ -42,12 +43,53 @@ fn archive_folder() -> PathBuf {
     }
 }
 
+/// The header's own lines of C, which `src/header.c` makes callable.
+fn link_header() {
+    let include = package().join("..").join("include");
+    let source = package().join("src").join("header.c");
+    println!("cargo:rerun-if-changed={}", source.display());
+    println!(
+        "cargo:rerun-if-changed={}",
+        include.join("pmc330.h").display()
+    );
+    let object = out().join("header.o");
+    run(Command::new("cc")
+        .args([
+            "-std=c99",
+            "-Wall",
+            "-Wextra",
+            "-pedantic",
+            "-Werror",
+            "-O2",
+        ])
+        .arg("-I")
+        .arg(&include)
+        .arg("-c")
+        .args([&source])
+        .arg("-o")
+        .arg(&object));
+    archived(&object, "pmc330_header");
+}
+
+/// One object as a library to be linked.
+fn archived(object: &Path, name: &str) {
+    let library = out().join(format!("lib{name}.a"));
+    // `ar` adds to an archive that is there.
+    let _ = std::fs::remove_file(&library);
+    run(Command::new("ar").arg("rcs").arg(&library).arg(object));
+    println!("cargo:rustc-link-search=native={}", out().display());
+    println!("cargo:rustc-link-lib=static={name}");
+}
+
+fn out() -> PathBuf {
+    env::var("OUT_DIR").expect("cargo sets OUT_DIR").into()
+}
+
 /// Both archives have the same names in them. The old one becomes one object, in which all is local
 /// but its player, by the name old_pmc330_play.
 fn link_old(archive: &Path) {
     println!("cargo:rerun-if-changed={}", archive.display());
-    let out = PathBuf::from(env::var("OUT_DIR").expect("cargo sets OUT_DIR"));
-    let [whole, old, library] = ["whole.o", "old.o", "libpmc330_old.a"].map(|name| out.join(name));
+    let [whole, old] = ["whole.o", "old.o"].map(|name| out().join(name));
     run(Command::new("ld")
         .args(["-r", "--whole-archive"])
         .arg(archive)
@@ -57,11 +99,7 @@ fn link_old(archive: &Path) {
         .args(["--redefine-sym", "pmc330_play=old_pmc330_play"])
         .arg("--keep-global-symbol=old_pmc330_play")
         .args([&whole, &old]));
-    // `ar` adds to an archive that is there.
-    let _ = std::fs::remove_file(&library);
-    run(Command::new("ar").arg("rcs").args([&library, &old]));
-    println!("cargo:rustc-link-search=native={}", out.display());
-    println!("cargo:rustc-link-lib=static=pmc330_old");
+    archived(&old, "pmc330_old");
     println!("cargo:rustc-cfg=old_archive");
 }
 

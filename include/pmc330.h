@@ -1,5 +1,8 @@
-/* The virtual PMC330: what a C program links from libpmc330_c.a.
-   Nothing here keeps state, allocates or fails: each function answers every argument. */
+/* The virtual PMC330: what a C program (C99 or later, or C++) links from libpmc330_c.a.
+   A simulator holds boards and steps them call by call (pmc330_board, pmc330_open and what follows it), or hands
+   over a whole list of calls (pmc330_play). Two functions need no board: pmc330_corrected and pmc330_code.
+   Each function answers all numbers that it can be given, and ends. None fails, allocates, or keeps anything behind
+   the caller's back. Pointers are the caller's to get right: none may be NULL. */
 #ifndef PMC330_H
 #define PMC330_H
 
@@ -9,6 +12,34 @@
 #ifdef __cplusplus
 extern "C" {
 #endif
+
+/* ---- Version ----
+   The meaning of a pmc330_board's bytes. It goes up when that changes, and only then; names and functions may be
+   added under the same version. Save it beside a saved board, and do not restore a board that was saved under
+   another: its bytes then hold some other board. Nothing would fail, but make the calls again instead.
+   Header and archive belong together: take both from the same release. */
+#define PMC330_VERSION 1U
+
+/* ---- What the board does, in short ----
+   A start begins a cycle: passes over the channels Start to End, in turn. With I = prescaler * timer, in ticks,
+     uniform   conversion k (from 0) begins (k + 1) * I after the start;
+     burst     the first begins in the call that starts the cycle, each further one of its pass 120 ticks after the
+               one before; the next pass 120 after the last one, and I more in burst continuous with the timer on;
+     external trigger only   Start Convert arms. With the trigger field input, the first trigger of the cycle and each
+               one 64 ticks or more after the last one taken is taken: it stores the code taken before it, if there
+               is one, and takes its own.
+   Single modes end with the last store of the first pass, and Control stays as it is. In the uniform and burst modes
+   a trigger starts a cycle too, if the board is idle, the trigger field is input, and a start would be accepted.
+   A conversion takes its code when it begins, that of its channel's voltage and gain then (see pmc330_code), and
+   stores it 64 ticks later (external trigger only: with the next trigger taken), in Control's format, in the mailbox
+   of its slot: the channel, and in differential 16 more in the second, fourth, .. pass of the cycle. The voltage is
+   the channel's input, in differential too, and in a calibration acquisition that calibration's.
+   A store sets its slot's New bit, and the Missed bit too if New was set already: Missed says that one or more codes
+   were lost. Reading a mailbox clears both bits of its slot, a start (or a trigger that starts) those of all slots;
+   codes stay until the next store or a reset.
+   A store that the interrupt field names sets pending, enabled or not, and it stays until a release or a reset. The
+   request line is enable and pending, so only stores, writes to Interrupt and resets move it.
+   A stop (Control with scan off) drops the conversion in progress; mailboxes, bits and pending stay. */
 
 /* ---- Time ----
    A tick is 1/8 microsecond, 125 ns. Only an advance lets ticks pass. */
@@ -32,7 +63,7 @@ extern "C" {
 #define PMC330_INTERRUPT        0x00U
 #define PMC330_CONTROL          0x04U
 #define PMC330_PRESCALER        0x09U  /* one byte: write it with width 8 */
-#define PMC330_PRESCALER_WORD   0x08U  /* the prescaler in bits 15-8; bits 7-0 read 0 and take nothing */
+#define PMC330_PRESCALER_WORD   0x08U  /* PMC330_PRESCALER_FIELD in bits 15-8; bits 7-0 read 0 and take nothing */
 #define PMC330_TIMER            0x0CU
 #define PMC330_CHANNELS         0x10U  /* Start and End Channel in one word, see PMC330_CHANNELS_WORD */
 #define PMC330_START_CHANNEL    0x10U  /* one byte */
@@ -55,18 +86,20 @@ extern "C" {
    The board requests an interrupt exactly when enable and pending are both 1. */
 #define PMC330_INTERRUPT_ENABLE  0x0001U
 #define PMC330_INTERRUPT_PENDING 0x0002U  /* read only */
-#define PMC330_INTERRUPT_RELEASE 0x8000U  /* write 1: pending becomes 0; reads 0. Alone, it also clears enable */
+#define PMC330_INTERRUPT_RELEASE 0x8000U  /* write 1: pending becomes 0; reads 0. Written alone in 16 or 32 bits, it
+                                             also clears enable */
 
 /* ---- Control: one value of each field, joined by | ----
    A field left out has its 0 value: two's complement, trigger off, differential, scan off, timer off, no
-   interrupt. A value that the masks allow but that has no name here is a not-used code (refused with 7). */
-#define PMC330_FORMAT_TWOS_COMPLEMENT     0x0000U
+   interrupt. A value that the masks allow but that has no name here is a not-used code (refused with 7). Bits
+   outside all masks are kept as 0. */
+#define PMC330_FORMAT_TWOS_COMPLEMENT     0x0000U  /* the straight code with bit 15 flipped, in every range */
 #define PMC330_FORMAT_STRAIGHT            0x0001U
 #define PMC330_FORMAT_MASK                0x0001U
 
 #define PMC330_TRIGGER_OFF                0x0000U
 #define PMC330_TRIGGER_INPUT              0x0002U
-#define PMC330_TRIGGER_OUTPUT             0x0004U
+#define PMC330_TRIGGER_OUTPUT             0x0004U  /* kept and read back; no pulse is given here */
 #define PMC330_TRIGGER_MASK               0x0006U
 
 #define PMC330_ACQUISITION_DIFFERENTIAL   0x0000U
@@ -96,8 +129,9 @@ extern "C" {
 #define PMC330_CALIBRATION_612500_UV  6U
 #define PMC330_CALIBRATION_0_UV       7U
 
-/* ---- Channels, Start Convert and Gain: values ---- */
+/* ---- Prescaler, Channels, Start Convert and Gain: values ---- */
 #define PMC330_CHANNELS_WORD(start, end)  ((start) | (end) << 8)
+#define PMC330_PRESCALER_FIELD(prescaler) ((prescaler) << 8)
 #define PMC330_CHANNEL_MAX                31U
 #define PMC330_CHANNEL_MAX_DIFFERENTIAL   15U
 #define PMC330_START                      0x0001U  /* to Start Convert */
@@ -109,6 +143,7 @@ extern "C" {
 #define PMC330_GAIN_FIELD(channel, gain)  ((gain) << (2U * ((channel) % 8U)))
 
 /* ---- Limits ---- */
+#define PMC330_SLOTS        32U
 #define PMC330_INPUT_MIN    (-35000000)  /* microvolts */
 #define PMC330_INPUT_MAX    55000000
 #define PMC330_ADVANCE_MAX  16777216U    /* ticks */
@@ -116,9 +151,132 @@ extern "C" {
 #define PMC330_SUM_MAX      2097120U     /* the sum of 32 codes */
 #define PMC330_CODE_MAX     65535U
 
-/* ---- Results: 256 * value (or calls answered) + number ---- */
+/* ---- Results: 256 * value (or calls answered) + number ----
+   Number 0: the call was accepted, and value is what a read read, for an advance the number of stores made in it,
+   for a correction its count, else 0. Otherwise the call was refused: it did nothing, value is 0, and number says
+   why, the first that holds.
+   Triggers and resets are always accepted; a trigger that cannot act is ignored.
+   Keep a result in a variable: a call inside both macros would be made twice. */
 #define PMC330_NUMBER(result) ((uint32_t)((result) % 256U))
 #define PMC330_VALUE(result)  ((uint32_t)((result) / 256U))
+
+#define PMC330_ACCEPTED         0U
+/* reads and writes */
+#define PMC330_BAD_WIDTH        1U   /* a width other than 8, 16, 32 */
+#define PMC330_BAD_OFFSET       2U   /* an offset of 256 or more, or no multiple of the width in bytes */
+#define PMC330_UNMAPPED         3U   /* an unmapped first byte */
+#define PMC330_BAD_VALUE        4U   /* a write of a value that the width cannot hold */
+#define PMC330_BAD_DIRECTION    5U   /* a write to a read-only register, or a read of Start Convert */
+/* writes */
+#define PMC330_BUSY             6U   /* a cycle runs or is armed, and the write is neither to Interrupt, nor to Control
+                                        with scan 000 as its result, nor to Start Convert without bit 0 */
+#define PMC330_BAD_CODE         7U   /* a not-used code in Control, or a Start or End Channel above 31 */
+/* writes to Start Convert that set bit 0 */
+#define PMC330_NO_SCAN          8U   /* scan is 000 */
+#define PMC330_BAD_CHANNELS     9U   /* Start Channel above End, or End above 15 in differential */
+#define PMC330_BAD_INTERVAL     10U  /* a uniform mode with the timer off, or prescaler * timer below 64 in a uniform
+                                        mode or in burst continuous with the timer on */
+/* inputs */
+#define PMC330_BAD_CHANNEL      11U  /* a channel above 31 */
+#define PMC330_BAD_VOLTAGE      12U  /* outside PMC330_INPUT_MIN to PMC330_INPUT_MAX */
+/* advances */
+#define PMC330_BAD_TICKS        13U  /* above PMC330_ADVANCE_MAX */
+/* new boards */
+#define PMC330_BAD_RANGE        14U  /* a range above 3 */
+/* pmc330_corrected */
+#define PMC330_BAD_CALIBRATION  15U
+#define PMC330_BAD_CODES        16U
+#define PMC330_BAD_SUMS         17U
+/* pmc330_play */
+#define PMC330_BAD_HEADING      18U
+#define PMC330_BAD_FIELD        19U
+#define PMC330_SHORT_BUFFER     20U
+
+/* ---- A board that a simulator holds ----
+   The caller owns the memory: a board is this struct and nothing else, wherever C lets it lie. It holds numbers and
+   no pointer, 324 bytes and no padding: boards of equal bytes are the same board. Copying it saves the board, copying
+   it back, to any place, restores it; in a file its bytes are in the machine's own order. Nothing is kept behind the
+   caller's back, so any number of boards may be used, and from several threads, as long as no two calls share one at
+   a time.
+   pmc330_open comes first, on memory with any contents. The fields are the part's own, not to be read or written;
+   but whatever they contain, every call answers and ends, and a refused call leaves every byte as it was. */
+typedef struct pmc330_board {
+    uint32_t words[17];
+    int32_t inputs[32];
+    uint8_t gains[32];
+    uint16_t codes[32];
+    uint8_t unread[32];
+} pmc330_board;
+
+/* Refused by a compiler that lays the struct out in another way. */
+typedef char pmc330_board_has_324_bytes[sizeof(pmc330_board) == 324 ? 1 : -1];
+
+/* The archive's own functions, on a board's parts. Not to be called in C: those after them are, one line each. */
+uint64_t pmc330_parts_open(uint32_t words[17], int32_t inputs[32], uint8_t gains[32], uint16_t codes[32],
+                           uint8_t unread[32], uint32_t range);
+uint64_t pmc330_parts_read(const uint32_t words[17], const int32_t inputs[32], const uint8_t gains[32],
+                           const uint16_t codes[32], uint8_t unread[32], uint32_t width, uint32_t offset);
+uint64_t pmc330_parts_write(uint32_t words[17], const int32_t inputs[32], uint8_t gains[32], const uint16_t codes[32],
+                            uint8_t unread[32], uint32_t width, uint32_t offset, uint32_t value);
+uint64_t pmc330_parts_input(const uint32_t words[17], int32_t inputs[32], const uint8_t gains[32],
+                            const uint16_t codes[32], const uint8_t unread[32], uint32_t channel, int32_t microvolts);
+uint64_t pmc330_parts_advance(uint32_t words[17], const int32_t inputs[32], const uint8_t gains[32],
+                              uint16_t codes[32], uint8_t unread[32], uint32_t ticks);
+uint64_t pmc330_parts_trigger(uint32_t words[17], const int32_t inputs[32], const uint8_t gains[32],
+                              uint16_t codes[32], uint8_t unread[32]);
+uint64_t pmc330_parts_reset(uint32_t words[17], const int32_t inputs[32], uint8_t gains[32], uint16_t codes[32],
+                            uint8_t unread[32]);
+uint32_t pmc330_parts_line(const uint32_t words[17]);
+uint32_t pmc330_parts_next_store(const uint32_t words[17]);
+
+/* A new board of a range: idle, with all registers, bits, codes and inputs 0. A refusal (PMC330_BAD_RANGE) makes none:
+   the struct is as it was. */
+static inline uint64_t pmc330_open(pmc330_board *board, uint32_t range) {
+    return pmc330_parts_open(board->words, board->inputs, board->gains, board->codes, board->unread, range);
+}
+
+/* A register read of width 8, 16 or 32; the value is what was read. A mailbox read clears its slot's New and Missed
+   bits, and no other read changes the board. */
+static inline uint64_t pmc330_read(pmc330_board *board, uint32_t width, uint32_t offset) {
+    return pmc330_parts_read(board->words, board->inputs, board->gains, board->codes, board->unread, width, offset);
+}
+
+/* A register write of width 8, 16 or 32. */
+static inline uint64_t pmc330_write(pmc330_board *board, uint32_t width, uint32_t offset, uint32_t value) {
+    return pmc330_parts_write(board->words, board->inputs, board->gains, board->codes, board->unread, width, offset,
+                              value);
+}
+
+/* The voltage at a channel, 0 to 31, in microvolts. It counts for conversions that begin in later calls; one due at
+   the last tick of an advance has begun in that advance. */
+static inline uint64_t pmc330_input(pmc330_board *board, uint32_t channel, int32_t microvolts) {
+    return pmc330_parts_input(board->words, board->inputs, board->gains, board->codes, board->unread, channel,
+                              microvolts);
+}
+
+/* Time passes: 0 to PMC330_ADVANCE_MAX ticks; the value is the number of stores made in them. */
+static inline uint64_t pmc330_advance(pmc330_board *board, uint32_t ticks) {
+    return pmc330_parts_advance(board->words, board->inputs, board->gains, board->codes, board->unread, ticks);
+}
+
+/* An external trigger. */
+static inline uint64_t pmc330_trigger(pmc330_board *board) {
+    return pmc330_parts_trigger(board->words, board->inputs, board->gains, board->codes, board->unread);
+}
+
+/* A reset: a new board, but with its range and its inputs. */
+static inline uint64_t pmc330_reset(pmc330_board *board) {
+    return pmc330_parts_reset(board->words, board->inputs, board->gains, board->codes, board->unread);
+}
+
+/* The request line, 0 or 1: the interrupt is enabled and pending. */
+static inline uint32_t pmc330_line(const pmc330_board *board) { return pmc330_parts_line(board->words); }
+
+/* The ticks to the next store if only time passes, 0 if none is to come. An advance of fewer ticks makes no store,
+   one of exactly that many is accepted and makes one; at 0 no advance makes any. It costs the same however far the
+   store is. A simulator that jumps from next store to next store sees the line at each tick at which time moves it.
+   (On contents that no calls led to, 0 says that one advance makes none.) */
+static inline uint32_t pmc330_next_store(const pmc330_board *board) { return pmc330_parts_next_store(board->words); }
 
 /* The two-point correction of one raw straight code to the nearest count.
      range      0: +-5 V, 1: +-10 V, 2: 0 to 5 V, 3: 0 to 10 V
@@ -134,7 +292,8 @@ extern "C" {
 uint64_t pmc330_corrected(uint32_t range, uint32_t gain, uint32_t high, uint32_t low,
                           uint32_t high_sum, uint32_t low_sum, uint32_t raw);
 
-/* The straight code, 0 to 65,535, of a voltage in microvolts.
+/* The straight code of a voltage in microvolts: (microvolts * gain - the range's low end) * 65536 / the range's width,
+   rounded down and limited to 0 to 65,535.
    range and gain as above; of any other number the remainder by 4 counts. */
 uint32_t pmc330_code(uint32_t range, uint32_t gain, int32_t microvolts);
 
@@ -170,28 +329,7 @@ uint32_t pmc330_code(uint32_t range, uint32_t gain, int32_t microvolts);
      06H  length 0   reset
    Each call's answer is 5 bytes: number (1) and value (4). Number 0: the call was accepted, and value
    is the value read, for an advance the number of stores made in it, else 0. Otherwise the board stays
-   as it was, value is 0, the trace goes on, and number says why, the first of:
-     reads and writes
-      1  a width other than 8, 16, 32
-      2  an offset of 256 or more, or no multiple of the width in bytes
-      3  an unmapped first byte
-      4  (writes only) a value that the width cannot hold
-      5  a write to a read-only register, or a read of Start Convert
-     writes
-      6  a write while a cycle runs or is armed, other than to Interrupt, a Control write after which
-         scan is 000, or a Start Convert write without bit 0
-      7  a not-used code in Control, or a Start or End Channel above 31
-     writes to Start Convert that set bit 0
-      8  a start with scan 000
-      9  a start with Start Channel above End, or End above 15 in differential
-     10  a start in a uniform mode with the timer off, or with prescaler * timer below 64 in a uniform
-         mode or in burst continuous with the timer on
-     inputs
-     11  an input's channel above 31
-     12  an input outside -35,000,000 to 55,000,000 microvolts
-     advances
-     13  an advance above 16,777,216 ticks
-   Triggers and resets are always accepted. A trigger that cannot act is ignored, with number 0.
+   as it was, value is 0, the trace goes on, and number says why: 1 to 13.
    Returns 256 * calls answered + number. Number 0: the answers stand at the front of the buffer, in
    order, and the bytes beyond them are as they were. Otherwise the whole buffer is as it was, no call
    was made, and number says what is wrong, the first of:

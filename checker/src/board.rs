@@ -8,7 +8,7 @@ use crate::analog::{self, Answer};
 use crate::call::Call;
 use crate::registers::{
     Control, Register, Registers, BURST_SINGLE, EACH_STORE, LAST_STORE_OF_A_PASS, SCAN_OFF,
-    TRIGGER_INPUT, TRIGGER_ONLY, UNIFORM_CONTINUOUS,
+    TRIGGER_INPUT, TRIGGER_ONLY, UNIFORM_CONTINUOUS, UNIFORM_SINGLE,
 };
 
 /// A conversion is stored so many ticks after it begins.
@@ -225,6 +225,23 @@ impl Board {
     /// "The request line is enable and pending."
     pub fn request_line(&self) -> bool {
         self.registers.enable && self.data.pending
+    }
+
+    /// The ticks to the next store if only time passes, 0 if none is to come. It is conversion k's, the
+    /// first that is not stored yet, 64 ticks after the beginning that 01's schedule gives it from T on.
+    pub fn next_store(&self) -> u32 {
+        let Some(cycle) = &self.cycle else {
+            return 0;
+        };
+        let (k, m) = (cycle.stored, self.registers.channels_in_a_pass());
+        let after_start = match self.registers.control.scan() {
+            // Stored by triggers only.
+            TRIGGER_ONLY => return 0,
+            UNIFORM_CONTINUOUS | UNIFORM_SINGLE => (k + 1) * self.registers.interval(),
+            _ => k / m * (BURST_STEP * m + self.registers.delay()) + BURST_STEP * (k % m),
+        };
+        let ticks = cycle.start + after_start + CONVERSION - self.tick;
+        u32::try_from(ticks).expect("I is at most 255 * 65,535")
     }
 }
 

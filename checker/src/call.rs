@@ -1,4 +1,5 @@
-//! The calls of a trace. They are printed as 01 writes them: "write 16 10H 0000H", "advance 64".
+//! The calls of a trace, and calls as C makes them. They are printed as 01 writes them: "write 16 10H
+//! 0000H", "advance 64".
 
 use std::fmt;
 
@@ -15,20 +16,71 @@ pub enum Call {
 
 impl fmt::Display for Call {
     fn fmt(&self, out: &mut fmt::Formatter) -> fmt::Result {
-        match *self {
-            Call::Read { width, offset } => write!(out, "read {width} {offset:02X}H"),
+        Step::of(self).fmt(out)
+    }
+}
+
+// Calls as C makes them.
+
+/// A call with arguments of 32 bits: also those that no trace can hold.
+#[derive(Clone, Copy, Debug, PartialEq, Eq)]
+pub enum Step {
+    Open { range: u32 },
+    Read { width: u32, offset: u32 },
+    Write { width: u32, offset: u32, value: u32 },
+    Input { channel: u32, microvolts: i32 },
+    Advance { ticks: u32 },
+    Trigger,
+    Reset,
+}
+
+impl Step {
+    pub fn of(call: &Call) -> Step {
+        match *call {
+            Call::Read { width, offset } => Step::Read {
+                width: width.into(),
+                offset: offset.into(),
+            },
             Call::Write {
                 width,
                 offset,
                 value,
-            } => write!(out, "write {width} {offset:02X}H {value:04X}H"),
+            } => Step::Write {
+                width: width.into(),
+                offset: offset.into(),
+                value,
+            },
             Call::Input {
                 channel,
                 microvolts,
+            } => Step::Input {
+                channel: channel.into(),
+                microvolts,
+            },
+            Call::Advance { ticks } => Step::Advance { ticks },
+            Call::Trigger => Step::Trigger,
+            Call::Reset => Step::Reset,
+        }
+    }
+}
+
+impl fmt::Display for Step {
+    fn fmt(&self, out: &mut fmt::Formatter) -> fmt::Result {
+        match *self {
+            Step::Open { range } => write!(out, "open {range}"),
+            Step::Read { width, offset } => write!(out, "read {width} {offset:02X}H"),
+            Step::Write {
+                width,
+                offset,
+                value,
+            } => write!(out, "write {width} {offset:02X}H {value:04X}H"),
+            Step::Input {
+                channel,
+                microvolts,
             } => write!(out, "input {channel} {microvolts}"),
-            Call::Advance { ticks } => write!(out, "advance {ticks}"),
-            Call::Trigger => write!(out, "trigger"),
-            Call::Reset => write!(out, "reset"),
+            Step::Advance { ticks } => write!(out, "advance {ticks}"),
+            Step::Trigger => write!(out, "trigger"),
+            Step::Reset => write!(out, "reset"),
         }
     }
 }

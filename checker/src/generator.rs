@@ -125,6 +125,24 @@ pub fn hostile(advances: usize) -> Vec<Call> {
     calls
 }
 
+/// The next calls for a board that is held elsewhere: one that suits what it is doing, or a few, or
+/// at times another scan.
+pub fn next_calls(random: Random, board: &Board) -> Vec<Call> {
+    let mut maker = Maker {
+        random,
+        board: board.clone(),
+        calls: Vec::new(),
+        longest: LONGEST_ADVANCE,
+    };
+    let seldom = if board.is_idle() { 6 } else { 40 };
+    if maker.random.one_in(seldom) {
+        maker.begin_a_scene();
+    } else {
+        maker.step();
+    }
+    maker.calls
+}
+
 impl Maker {
     pub fn new(random: Random, range: u32, longest: u32) -> Maker {
         let (board, answer) = Board::new(range);

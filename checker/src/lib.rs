@@ -5,6 +5,7 @@
 #![allow(clippy::manual_is_multiple_of)]
 
 pub mod analog;
+pub mod any_bytes;
 pub mod archive;
 pub mod board;
 pub mod call;
@@ -19,5 +20,7 @@ pub mod one_kind;
 pub mod random;
 pub mod registers;
 pub mod script;
+pub mod stepped;
+pub mod stepping;
 pub mod stored;
 pub mod trace;

@@ -34,7 +34,7 @@ fn read_16(offset: u16) -> Call {
 }
 
 /// 32 channels at I = 64, single ended, started in this mode.
-fn started(control: u32) -> Vec<Call> {
+pub fn started(control: u32) -> Vec<Call> {
     vec![
         write_16(0x04, control),
         write_16(0x08, 0x4000),

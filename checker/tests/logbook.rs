@@ -1,7 +1,7 @@
 //! The independent board against 01's logbook, which goes tick by tick and shares nothing with it
 //! but the figures behind the code of a voltage: the checker's own check.
 
-use checker::board::Board;
+use checker::board::{Board, LONGEST_ADVANCE};
 use checker::call::Call;
 use checker::generator::scenes;
 use checker::logbook::{Event, Logbook};
@@ -90,6 +90,55 @@ fn refused_of(range: u32, list: &[Call]) -> usize {
     list.iter()
         .filter(|call| board.call(call).number != 0)
         .count()
+}
+
+/// When the next store comes, by advances of a copy of the board and, if it is near, tick by tick.
+#[test]
+fn next_stores() {
+    let seed = seed_or(120);
+    let mut random = Random::new(seed);
+    let (mut none, mut near, mut far) = (0, 0, 0);
+    for index in 0..2_000 {
+        let range = random.below(4);
+        let own = Random::new(random.bits());
+        let list = scenes(own, range, 2_000, 2);
+        let mut pair = Pair::new(range);
+        for (position, call) in list.iter().enumerate() {
+            pair.board.call(call);
+            pair.logbook.call(call);
+            let name = format!("seed {seed}, list {index}, call {}", position + 1);
+            match check_next_store(&pair, &name) {
+                0 => none += 1,
+                1..=NEAR => near += 1,
+                _ => far += 1,
+            }
+        }
+    }
+    println!("next store: {none} times none, {near} times near, {far} times far");
+    assert!(none > 20_000 && near > 20_000 && far > 2_000);
+}
+
+/// So many ticks are tried one by one.
+const NEAR: u32 = 500;
+
+fn check_next_store(pair: &Pair, name: &str) -> u32 {
+    let next = pair.board.next_store();
+    let tries = match next {
+        0 => vec![(LONGEST_ADVANCE, 0), (NEAR, 0)],
+        _ => vec![(next - 1, 0), (next, 1)],
+    };
+    for (ticks, stores) in tries {
+        let found = pair.board.clone().advance(ticks).value;
+        assert_eq!(found, stores, "{name}: board, next {next}, advance {ticks}");
+        if ticks <= NEAR {
+            let found = pair.logbook.clone().call(&Call::Advance { ticks }).value;
+            assert_eq!(
+                found, stores,
+                "{name}: logbook, next {next}, advance {ticks}"
+            );
+        }
+    }
+    next
 }
 
 /// Cycles of more than 65,536 conversions, on three channels so that passes and powers of two part.

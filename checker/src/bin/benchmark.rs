@@ -1,17 +1,19 @@
 //! How fast the archive plays, beside the independent program and, if PMC330_OLD_ARCHIVE named one
 //! when this was built, beside an older archive: mixed traces, single kinds of calls, a short, a
-//! longer and the longest advance in each scan mode, and the longest trace. Best of several rounds,
-//! the players in turn within a round.
+//! longer and the longest advance in each scan mode, the longest trace, and the same calls stepped one
+//! by one. Best of several rounds, the players in turn within a round.
 //!
-//! Run it with `cargo run --release --offline --bin benchmark`.
+//! Run it with `cargo run --release --offline --bin benchmark`; with `-- stepping` only that part.
 
 use checker::archive::{self, Player, OLD_PLAYER};
 use checker::board::LONGEST_ADVANCE;
 use checker::call::Call;
 use checker::generator::{hostile, long_advances, middle_advances, scenes};
-use checker::one_kind::{kinds, write_16, Kind};
+use checker::one_kind::{kinds, started, write_16, Kind};
 use checker::random::Random;
-use checker::trace::{self, trace_of};
+use checker::stepped::SteppedBoard;
+use checker::trace::{self, decoded, trace_of};
+use std::hint::black_box;
 use std::time::Instant;
 
 const ROUNDS: usize = 15;
@@ -110,14 +112,18 @@ fn table(title: &str, counted: &str, loads: &[Load]) -> f64 {
 
 // Mixed traces.
 
-fn mixed() {
+fn mixed_loads() -> Vec<Load> {
     let (short, middle, long) = (Random::new(1), Random::new(3), Random::new(2));
-    let loads = [
+    vec![
         load("short advances", &scenes(short, 1, 2_000, 5_000)),
         load("middle advances", &middle_advances(middle, 1, 3_000)),
         load("long advances", &long_advances(long, 1, 300)),
         load("hostile, in short", &hostile(400)),
-    ];
+    ]
+}
+
+fn mixed() {
+    let loads = mixed_loads();
     table("mixed calls, each", "calls", &loads);
     for load in &loads {
         println!("  {}: {} are advances", load.name, load.advances);
@@ -129,13 +135,16 @@ fn mixed() {
 /// How often a kind is repeated in its trace.
 const REPEATED: usize = 5_000;
 
-fn single_kinds() {
+fn kinds_loads() -> Vec<Load> {
     let load_of = |kind: Kind| Load {
         counted: REPEATED,
         ..load(kind.name, &kind.calls(REPEATED))
     };
-    let loads: Vec<Load> = kinds().into_iter().map(load_of).collect();
-    table("one kind of call, each", "times", &loads);
+    kinds().into_iter().map(load_of).collect()
+}
+
+fn single_kinds() {
+    table("one kind of call, each", "times", &kinds_loads());
 }
 
 // The longest advance.
@@ -205,7 +214,111 @@ fn longest_trace() {
     );
 }
 
+// Stepping: the same calls, made one by one on a board that is held here.
+
+/// Seconds that a list takes, from a new board on, made so many times. Adds its answers up.
+fn timed_steps(calls: &[Call], times: usize, sum: &mut u64) -> f64 {
+    let start = Instant::now();
+    for _ in 0..times {
+        let mut board = SteppedBoard::filled(0);
+        assert_eq!(board.open(1), 0);
+        for call in calls {
+            *sum = sum.wrapping_add(board.call(call));
+        }
+    }
+    start.elapsed().as_secs_f64()
+}
+
+/// What the results of the calls add up to, by a player's answers.
+fn sum_of(answers: &[u8]) -> u64 {
+    let result = |bytes: &[u8]| {
+        let value = u32::from_le_bytes([bytes[1], bytes[2], bytes[3], bytes[4]]);
+        256 * u64::from(value) + u64::from(bytes[0])
+    };
+    answers.chunks_exact(5).map(result).sum()
+}
+
+/// One round: stepped and played, each first in every other one. Keeps the best nanoseconds of both.
+fn step_a_round(load: &Load, calls: &[Call], round: usize, best: &mut [f64; 2]) {
+    let times = CALLS_IN_A_ROUND.div_ceil(load.calls);
+    let mut answers = vec![0; 5 * load.calls];
+    let mut sum = 0;
+    for turn in 0..2 {
+        let which = (round + turn) % 2;
+        let seconds = match which {
+            0 => timed_steps(calls, times, &mut sum),
+            _ => timed(load, archive::play, times, &mut answers),
+        };
+        let nanoseconds = seconds * 1e9 / (times * load.counted) as f64;
+        best[which] = best[which].min(nanoseconds);
+    }
+    assert_eq!(
+        sum,
+        times as u64 * sum_of(&answers),
+        "{}: answers differ",
+        load.name
+    );
+}
+
+fn stepping_table(title: &str, counted: &str, loads: &[Load]) {
+    let lists: Vec<Vec<Call>> = loads
+        .iter()
+        .map(|load| decoded(&load.trace).expect("a good trace").1)
+        .collect();
+    let mut best = vec![[f64::INFINITY; 2]; loads.len()];
+    for round in 0..ROUNDS {
+        for ((load, calls), best) in loads.iter().zip(&lists).zip(&mut best) {
+            step_a_round(load, calls, round, best);
+        }
+    }
+    println!(
+        "{title:<32}{counted:>9}{:>11}{:>14}{:>10}",
+        "stepped", "played", "/ played"
+    );
+    for (load, [stepped, played]) in loads.iter().zip(best) {
+        println!(
+            "{:<32}{:>9}{stepped:>8.1} ns{played:>11.1} ns{:>10.3}",
+            load.name,
+            load.counted,
+            stepped / played
+        );
+    }
+}
+
+/// Nanoseconds of the question when the next store comes, on a board that scans in this mode.
+fn next_store_in(mode: u32) -> f64 {
+    const ASKED: usize = 100_000;
+    let mut board = SteppedBoard::filled(0);
+    assert_eq!(board.open(1), 0);
+    for call in started(mode) {
+        assert_eq!(board.call(&call), 0);
+    }
+    let mut best = f64::INFINITY;
+    for _ in 0..ROUNDS {
+        let start = Instant::now();
+        for _ in 0..ASKED {
+            black_box(black_box(&board).next_store());
+        }
+        best = best.min(start.elapsed().as_secs_f64() * 1e9 / ASKED as f64);
+    }
+    best
+}
+
+fn stepping() {
+    let mixed = mixed_loads();
+    stepping_table("stepping, mixed calls, each", "calls", &mixed[..3]);
+    println!();
+    stepping_table("stepping, one kind, each", "times", &kinds_loads());
+    println!("next store, asked of a running board:");
+    for (name, mode) in MODES {
+        println!("  {name:<22} {:.1} ns", next_store_in(mode));
+    }
+}
+
 fn main() {
+    if std::env::args().nth(1).as_deref() == Some("stepping") {
+        return stepping();
+    }
     mixed();
     println!();
     single_kinds();
@@ -213,4 +326,6 @@ fn main() {
     longest_advances();
     println!();
     longest_trace();
+    println!();
+    stepping();
 }

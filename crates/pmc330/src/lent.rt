@@ -4,9 +4,9 @@ ghost use mathlib.Core.Bool.{_&&_, cond, not};
 ghost use mathlib.Core.List.{List};
 ghost use mathlib.Core.Path.{_≡_};
 ghost use Prim.Native.Nat.{ℕ, _<_};
-ghost use Rattle.pmc330_model.specs.Board.{idleCycle, afterWrite, readCall, writeCall, inputCall, advanceCall, triggerCall, resetCall, newCall, requestLine};
+ghost use Rattle.pmc330_model.specs.Board.{idleCycle, afterWrite, readCall, writeCall, inputCall, advanceCall, triggerCall, resetCall, requestLine, nextStore};
 ghost use Rattle.pmc330_model.specs.Map.{ifMailbox};
-ghost use Rattle.pmc330_model.specs.Lent.{boardIn, wordsOf, wordsAfter};
+ghost use Rattle.pmc330_model.specs.Lent.{boardIn, wordsAfter, openCall};
 ghost use lib.IntN.{ℤ};
 ghost use lib.ListN.{set};
 ghost use Rattle.pmc330.specs.Classes.{registerOf};
@@ -18,11 +18,12 @@ use crate::map;
 use crate::questions;
 use crate::starts;
 use crate::time;
+use crate::upcoming;
 use crate::words as map_words;
 use analog::Answer;
 use pmc330_model::Cycle;
 
-// A new board of a range.
+// A new board of a range, in place of what was lent. A refusal leaves that.
 pub fn new(
     words: &mut [u32; 17],
     inputs: &mut [i32; 32],
@@ -31,19 +32,19 @@ pub fn new(
     unread: &mut [u8; 32],
     range: u32,
 ) -> Answer
-    ensures answer { λ r. ⌜ r ≡ newCall range .answer ⌝ }
-    ensures board { λ _. ⌜ boardIn (now (words .exit)) (now (inputs .exit)) (now (gains .exit)) (now (codes .exit)) (now (unread .exit)) ≡ newCall range .board ⌝ }
-    ensures words { λ _. ⌜ now (words .exit) ≡ wordsOf (newCall range .board) ⌝ }
+    ensures answer { λ r. ⌜ r ≡ openCall (boardIn (now (words .entry)) (now (inputs .entry)) (now (gains .entry)) (now (codes .entry)) (now (unread .entry))) range .answer ⌝ }
+    ensures board { λ _. ⌜ boardIn (now (words .exit)) (now (inputs .exit)) (now (gains .exit)) (now (codes .exit)) (now (unread .exit)) ≡ openCall (boardIn (now (words .entry)) (now (inputs .entry)) (now (gains .entry)) (now (codes .entry)) (now (unread .entry))) range .board ⌝ }
+    ensures words { λ _. ⌜ now (words .exit) ≡ wordsAfter (openCall (boardIn (now (words .entry)) (now (inputs .entry)) (now (gains .entry)) (now (codes .entry)) (now (unread .entry))) range) (now (words .entry)) ⌝ }
 {
+    if 3 < range {
+        return Answer::Refused(14);
+    }
     *words = [0u32; 17];
+    words[0] = range;
     *inputs = [0i32; 32];
     *gains = [0u8; 32];
     *codes = [0u16; 32];
     *unread = [0u8; 32];
-    if 3 < range {
-        return Answer::Refused(14);
-    }
-    words[0] = range;
     Answer::Accepted(0)
 }
 
@@ -260,4 +261,11 @@ pub fn request_line(words: &[u32; 17]) -> bool
         return core.pending;
     }
     false
+}
+
+// The ticks to the next store if only time passes, 0 if none is to come. The arrays do not matter.
+pub fn next_store(words: &[u32; 17]) -> u32
+    ensures { λ n. ⌜ ((inputs : List ℤ) (gains codes unread : List ℕ) → n ≡ nextStore (boardIn (now (words .entry)) inputs gains codes unread)) ⌝ }
+{
+    upcoming::ticks_to_next_store(held::core_of(words))
 }

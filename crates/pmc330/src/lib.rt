@@ -9,11 +9,12 @@ mod questions;
 mod starts;
 mod stores;
 mod time;
+mod upcoming;
 mod widths;
 mod words;
 
 ghost use mathlib.Core.Path.{_≡_};
-ghost use Rattle.pmc330_model.specs.Board.{readCall, writeCall, inputCall, advanceCall, triggerCall, resetCall, newCall, requestLine};
+ghost use Rattle.pmc330_model.specs.Board.{readCall, writeCall, inputCall, advanceCall, triggerCall, resetCall, newCall, requestLine, nextStore};
 use pmc330_model::Board;
 use pmc330_model::Reply;
 
@@ -161,4 +162,11 @@ pub fn request_line(b: Board) -> bool
         return b.pending;
     }
     false
+}
+
+// The ticks to the next store if only time passes, 0 if none is to come.
+pub fn next_store(b: Board) -> u32
+    ensures { λ n. ⌜ n ≡ nextStore b ⌝ }
+{
+    lent::next_store(&held::taken_apart(b))
 }

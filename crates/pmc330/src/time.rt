@@ -1,8 +1,10 @@
 // Time passes: from event to event, and over whole repeats once the board comes back to itself.
 ghost use mathlib.Core.Bool.{_&&_, cond, true, false};
+ghost use mathlib.Core.List.{List};
 ghost use mathlib.Core.Path.{_≡_};
-ghost use Prim.Native.Nat.{_+_, _-_, _*_, _/_, _%_, _<_, min};
+ghost use Prim.Native.Nat.{ℕ, _+_, _-_, _*_, _/_, _%_, _≤_, _<_, min};
 ghost use lib.Dec.{eqb};
+ghost use lib.IntN.{ℤ};
 ghost use Rattle.pmc330_model.specs.Schedule.{isTimed};
 ghost use Rattle.pmc330_model.specs.Jumps.{elapsedBy, jumped};
 ghost use Rattle.pmc330.specs.Steps.{Planned, boardOf, boardWith, begunScan, stepTo, Unmoved, RunOf, SameFlags, SameCore, turnedCore, IgnoresParity};
@@ -31,7 +33,7 @@ fn bit(b: bool) -> u32
     0
 }
 
-fn less(count: u32, n: u32) -> u32
+pub(crate) fn less(count: u32, n: u32) -> u32
     ensures { λ r. ⌜ r ≡ count - n ⌝ }
 {
     if count < n {
@@ -176,6 +178,32 @@ fn run_timed(
     }
 }
 
+// Whether a cycle runs in a mode in time: no other board makes a store by itself.
+pub(crate) fn is_in_time(core: Core) -> bool
+    ensures { λ t. ⌜ t ≡ (core .cycle .running && isTimed (core .registers)) ⌝ }
+{
+    if !core.cycle.running {
+        return false;
+    }
+    let r = core.registers;
+    fields::is_timed(r)
+}
+
+// Time passes on any other board. Its arrays stay, whatever they are.
+fn waited(core: Core, ticks: u32) -> Core
+    requires { ⌜ (core .cycle .running && isTimed (core .registers)) ≡ false ⌝ }
+    ensures { λ n. ⌜ ((inputs : List ℤ) (gains codes unread : List ℕ) → RunOf ticks (boardWith core inputs gains codes unread) (boardWith n inputs gains codes unread) 0) ⌝ }
+{
+    if !core.cycle.running {
+        return core;
+    }
+    let c = core.cycle;
+    let cycle = elapsed_by(c, ticks);
+    let mut next = core;
+    next.cycle = cycle;
+    next
+}
+
 // Any board, from event to event.
 fn run_any(
     core: Core,
@@ -188,22 +216,10 @@ fn run_any(
     ensures run { λ n. ⌜ RunOf ticks (boardWith core (now (inputs .entry)) (now (gains .entry)) (now (codes .entry)) (now (unread .entry))) (boardWith (n .core) (now (inputs .entry)) (now (gains .entry)) (now (codes .exit)) (now (unread .exit))) (n .stores) ⌝ }
     ensures unchanged { λ n. ⌜ (n .changed ≡ false → Unmoved false (now (codes .entry)) (now (codes .exit)) (now (unread .entry)) (now (unread .exit))) ⌝ }
 {
-    if !core.cycle.running {
+    if !is_in_time(core) {
         return Run {
             changed: false,
-            core,
-            stores: 0,
-        };
-    }
-    let r = core.registers;
-    if !fields::is_timed(r) {
-        let c = core.cycle;
-        let cycle = elapsed_by(c, ticks);
-        let mut next = core;
-        next.cycle = cycle;
-        return Run {
-            changed: false,
-            core: next,
+            core: waited(core, ticks),
             stores: 0,
         };
     }
@@ -370,6 +386,25 @@ fn smaller(a: u32, b: u32) -> u32
     b
 }
 
+fn larger(a: u32, b: u32) -> u32
+    ensures { λ n. ⌜ a ≤ n ⌝ }
+{
+    if a < b {
+        return b;
+    }
+    a
+}
+
+// The part of a run that is run next: a span, or up to the next event where that is farther, as only lent words that no
+// call wrote have it. No tick of the way there is then counted.
+fn part_of(core: Core, left: u32, span: u32) -> u32
+    ensures most { λ n. ⌜ n ≤ left ⌝ }
+    ensures some { λ n. ⌜ (0 < left → 0 < span → 0 < n) ⌝ }
+{
+    let c = core.cycle;
+    smaller(left, larger(span, nearer(c.lead, nearer(c.lag, left))))
+}
+
 // Span after span; once a span leaves the board as it was, or only turns a parity without effect, all later ones do, and
 // make as many stores.
 fn run_spans(
@@ -389,7 +424,7 @@ fn run_spans(
     let mut left = ticks;
     let mut made: u32 = 0;
     while 0 < left {
-        let part = smaller(left, span);
+        let part = part_of(before, left, span);
         let run = run_any(before, inputs, gains, codes, unread, part);
         let after = run.core;
         let stores = run.stores;
@@ -437,6 +472,13 @@ pub(crate) fn advance_by(
 ) -> Run
     ensures { λ n. ⌜ RunOf ticks (boardWith core (now (inputs .entry)) (now (gains .entry)) (now (codes .entry)) (now (unread .entry))) (boardWith (n .core) (now (inputs .entry)) (now (gains .entry)) (now (codes .exit)) (now (unread .exit))) (n .stores) ⌝ }
 {
+    if !is_in_time(core) {
+        return Run {
+            changed: false,
+            core: waited(core, ticks),
+            stores: 0,
+        };
+    }
     let r = core.registers;
     let ignored = ignores_parity(r);
     let span = span_of(r, ticks, ignored);

@@ -1,4 +1,6 @@
-// What C links: include/pmc330.h declares each function here.
+// What C links: include/pmc330.h declares each function here and in `board`.
+mod board;
+
 ghost use mathlib.Core.Path.{_≡_};
 ghost use Rattle.analog.specs.Answers.{packed};
 ghost use Rattle.analog.specs.Code.{codeOf};
@@ -8,7 +10,7 @@ ghost use Rattle.trace.specs.Play.{playedResult, playedBuffer};
 use analog::Answer;
 
 // An answer as one number, 256 × value + number.
-fn packed_answer(answer: Answer) -> u64
+pub(crate) fn packed_answer(answer: Answer) -> u64
     ensures { λ r. ⌜ r ≡ packed answer ⌝ }
 {
     match answer {

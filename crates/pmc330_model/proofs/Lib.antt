@@ -17,4 +17,7 @@ pub mod Writes
 pub mod CallsAgree
 pub mod Theorems
 pub mod Jumps
+pub mod Countdowns
+pub mod NextStores
+pub mod Opening
 pub mod Bench

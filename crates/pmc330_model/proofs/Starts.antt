@@ -11,7 +11,7 @@ use lib.ListN.{replicate}
 use borrow.Author.Tests.{leb-true, lt-ltb}
 use Rattle.pmc330_model.specs.Map.{scanField, isTimerEnabled}
 use Rattle.pmc330_model.specs.Schedule.{passLength, interval, isDifferential, isUniform, isBurst, isSingle, isTimed, isTriggerOnly, inOddPass, burstDelay, beginsAt, isScheduled}
-use Rattle.pmc330_model.specs.Board.{begun, freshCycle, started}
+use Rattle.pmc330_model.specs.Board.{begun, freshCycle, restarted, started}
 use Rattle.pmc330_model.specs.Logbook.{Event, cycleStart, Running, since, starts}
 use Rattle.pmc330_model.specs.Questions.{hasChannels, hasInterval}
 use Rattle.pmc330_model.specs.declared.Registers.{Registers}
@@ -73,18 +73,7 @@ module _ (r : Registers) where
 module _ (b : Board) (tick : ℕ) (cycle : Running) (events : List Event) (agrees : Agrees b tick cycle events) (startable : Startable (b .registers)) where
   -- the board with the bits cleared and the cycle fresh
   abbrev fresh : Board
-  fresh =
-      record {
-        range = b .range;
-        inputs = b .inputs;
-        gains = b .gains;
-        codes = b .codes;
-        unread = replicate 32 0;
-        pending = b .pending;
-        registers = b .registers;
-        held = b .held;
-        cycle = freshCycle (b .registers);
-      }
+  fresh = restarted b
 
   fresh-memory : Memory (cycleStart ∷ events) (b .codes) (replicate 32 0) (b .pending)
   fresh-memory = memory-start events (b .codes) (b .unread) (b .pending) (agrees .memory)

@@ -148,18 +148,18 @@ accepted-most b n e =
     (lt-or-le 16_777_216 n)
 
 module _ (b : Board) (n : ℕ) (most : n ≤ 16_777_216) where
-  accepted-board : advanceCall b n .board ≡ advanced n b
+  pub accepted-board : advanceCall b n .board ≡ advanced n b
   unfolding boardCall callQuestions firstNo afterCall
   accepted-board = rw (le-leb n 16_777_216 most)
 
-  accepted-answer : advanceCall b n .answer ≡ Accepted (storesIn n b)
+  pub accepted-answer : advanceCall b n .answer ≡ Accepted (storesIn n b)
   unfolding boardCall callQuestions firstNo answered valueOfCall
   accepted-answer = rw (le-leb n 16_777_216 most)
 
   accepted-is : isAccepted (advanceCall b n .answer) ≡ true
   accepted-is = ap isAccepted accepted-answer
 
-  accepted-value : valueOf (advanceCall b n .answer) ≡ storesIn n b
+  pub accepted-value : valueOf (advanceCall b n .answer) ≡ storesIn n b
   accepted-value = ap valueOf accepted-answer
 
 pub advanceJoins : EveryPair

@@ -10,7 +10,7 @@ use borrow.Author.Tests.{leb-true}
 use Rattle.pmc330_model.specs.Map.{Register, unmapped, interrupt, control, prescaler, timer, channels, startConvert, newData, missedData, gain, mailbox, triggerField, acquisitionField, scanField, interruptField, keptControl}
 use Rattle.pmc330_model.specs.Words.{withWord, gainsWith, bitOf, isRelease, isStop, isStart}
 use Rattle.pmc330_model.specs.Schedule.{beginsAt}
-use Rattle.pmc330_model.specs.Board.{idleCycle, started, afterWrite}
+use Rattle.pmc330_model.specs.Board.{wordWritten, idleCycle, started, afterWrite}
 use Rattle.pmc330_model.specs.Logbook.{Event, release, Running, idle, since, isIdle, starts, writes}
 use Rattle.pmc330_model.specs.Questions.{isAllowed, hasUsedCodes, isValid, hasChannels, hasInterval}
 use Rattle.pmc330_model.specs.declared.Registers.{Registers}
@@ -120,24 +120,9 @@ used-scan word used =
     used))
 
 module _ (b : Board) (tick : ℕ) (cycle : Running) (events : List Event) (agrees : Agrees b tick cycle events) where
-  -- the board with a word written, before a start
-  abbrev written : Register → (word : ℕ) → Board
-  written register word =
-      record {
-        range = b .range;
-        inputs = b .inputs;
-        gains = gainsWith register word (b .gains);
-        codes = b .codes;
-        unread = b .unread;
-        pending = b .pending && not (isRelease register word);
-        registers = withWord register word (b .registers);
-        held = b .held;
-        cycle = cond (isStop register word) idleCycle (b .cycle);
-      }
-
   abbrev Written : Register → (word : ℕ) → Type 0
   Written register word =
-      Agrees (written register word) tick (cond (isStop register word) idle cycle) (cond (isRelease register word) (release ∷ events) events)
+      Agrees (wordWritten register word b) tick (cond (isStop register word) idle cycle) (cond (isRelease register word) (release ∷ events) events)
 
   kept-memory : Memory events (b .codes) (b .unread) (b .pending && true)
   kept-memory = rw (and-true (b .pending)) (agrees .memory)
@@ -239,10 +224,10 @@ module _ (b : Board) (tick : ℕ) (cycle : Running) (events : List Event) (agree
 
   module _ (register : Register) (word : ℕ) (next : Written register word) where
     starting : isStart register word ≡ true → hasChannels (b .registers) ≡ true → hasInterval (b .registers) ≡ true → (scanField (b .registers .control) ≡ 0 → ⊥)
-        → Related (starts (bookOf (written register word) tick (cond (isStop register word) idle cycle) (cond (isRelease register word) (release ∷ events) events))) (started (written register word))
+        → Related (starts (bookOf (wordWritten register word b) tick (cond (isStop register word) idle cycle) (cond (isRelease register word) (release ∷ events) events))) (started (wordWritten register word b))
     starting e nine ten some =
         let same : b .registers ≡ withWord register word (b .registers) = sym (start-keeps register word e) in
-        started-agrees (written register word) tick (cond (isStop register word) idle cycle) (cond (isRelease register word) (release ∷ events) events) next
+        started-agrees (wordWritten register word b) tick (cond (isStop register word) idle cycle) (cond (isRelease register word) (release ∷ events) events) next
         (startable-of (withWord register word (b .registers)) (next .limits)
         (subst (λ (r : Registers). hasChannels r ≡ true) same nine)
         (subst (λ (r : Registers). hasInterval r ≡ true) same ten))
@@ -258,4 +243,4 @@ module _ (b : Board) (tick : ℕ) (cycle : Running) (events : List Event) (agree
       let next : Written register word = written-agrees register word allowed valid in
       both (isStart register word) (isStart register word) refl
       (λ e. starting register word next e (start e .1) (start e .2) (start e .0))
-      (λ e. unchanged (written register word) tick (cond (isStop register word) idle cycle) (cond (isRelease register word) (release ∷ events) events) next)
+      (λ e. unchanged (wordWritten register word b) tick (cond (isStop register word) idle cycle) (cond (isRelease register word) (release ∷ events) events) next)

@@ -169,7 +169,16 @@ unfoldable pub storesIn : (n : ℕ) → Board → ℕ
 storesIn zero b = 0
 storesIn (suc n) b = cond (isStoreDue b) 1 0 + storesIn n (ticked b)
 
--- a cycle starts: "All New and Missed bits clear." "A burst's first beginning is part of the call that starts it."
+-- the first of n more ticks that makes a store, where `passed` ticks have passed; 0 if none of them does
+unfoldable pub firstStore : (n passed : ℕ) → Board → ℕ
+firstStore zero passed b = 0
+firstStore (suc n) passed b = cond (isStoreDue b) (suc passed) (firstStore n (suc passed) (ticked b))
+
+-- the ticks to the next store if only time passes; 0 if the longest advance makes none
+abbrev pub nextStore : Board → ℕ
+nextStore b = firstStore 16_777_216 0 b
+
+-- a cycle at its start
 abbrev pub freshCycle : Registers → Cycle
 freshCycle r =
     record {
@@ -183,9 +192,9 @@ freshCycle r =
       odd = false;
     }
 
-unfoldable pub started : Board → Board
-started b =
-    let fresh : Board =
+-- a cycle starts: "All New and Missed bits clear."
+abbrev pub restarted : Board → Board
+restarted b =
     record {
       range = b .range;
       inputs = b .inputs;
@@ -196,8 +205,11 @@ started b =
       registers = b .registers;
       held = b .held;
       cycle = freshCycle (b .registers);
-    } in
-    cond (isBurst (b .registers)) (begun fresh) fresh
+    }
+
+-- "A burst's first beginning is part of the call that starts it."
+unfoldable pub started : Board → Board
+started b = cond (isBurst (b .registers)) (begun (restarted b)) (restarted b)
 
 -- a trigger that is taken: "its store first, then its code"
 abbrev pub triggerTaken : Board → Board
@@ -231,10 +243,9 @@ slotCleared slot b =
 abbrev pub afterRead : Register → Board → Board
 afterRead register b = ifMailbox register (λ slot. slotCleared slot b) b
 
--- an accepted write of a word
-unfoldable pub afterWrite : Register → (word : ℕ) → Board → Board
-afterWrite register word b =
-    let next : Board =
+-- an accepted write of a word, before the start that it may make
+abbrev pub wordWritten : Register → (word : ℕ) → Board → Board
+wordWritten register word b =
     record {
       range = b .range;
       inputs = b .inputs;
@@ -245,8 +256,12 @@ afterWrite register word b =
       registers = withWord register word (b .registers);
       held = b .held;
       cycle = cond (isStop register word) idleCycle (b .cycle);
-    } in
-    cond (isStart register word) (started next) next
+    }
+
+-- and with it
+unfoldable pub afterWrite : Register → (word : ℕ) → Board → Board
+afterWrite register word b =
+    cond (isStart register word) (started (wordWritten register word b)) (wordWritten register word b)
 
 -- what can be seen of the board
 abbrev pub viewOf : Board → View

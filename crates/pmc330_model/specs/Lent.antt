@@ -3,11 +3,12 @@
 use Prim.Native.Nat.{ℕ, _%_}
 use mathlib.Core.Bool.{Bool, cond, not}
 use mathlib.Core.List.{List, [], _∷_}
-use lib.Dec.{eqb}
+use lib.Dec.{eqb, leb}
 use lib.IntN.{ℤ}
 use lib.ListN.{getD}
 use Rattle.analog.specs.Answers.{isAccepted}
 use Rattle.pmc330_model.specs.Words.{toBit}
+use Rattle.pmc330_model.specs.Board.{newBoard, newCall}
 use Rattle.pmc330_model.specs.declared.Registers.{Registers}
 use Rattle.pmc330_model.specs.declared.Cycle.{Cycle}
 use Rattle.pmc330_model.specs.declared.Board.{Board}
@@ -90,3 +91,26 @@ wordsOf b =
 -- the words after a call: those of the board that it hands back, or where it is refused the words as they were
 abbrev pub wordsAfter : Reply → (words : List ℕ) → List ℕ
 wordsAfter reply words = cond (isAccepted (reply .answer)) (wordsOf (reply .board)) words
+
+-- ---- the parts together
+
+pub record Parts : Type 0 where
+  pub words : List ℕ
+  pub inputs : List ℤ
+  pub gains : List ℕ
+  pub codes : List ℕ
+  pub unread : List ℕ
+
+abbrev pub parts : (words : List ℕ) (inputs : List ℤ) (gains codes unread : List ℕ) → Parts
+parts words inputs gains codes unread = record { words = words; inputs = inputs; gains = gains; codes = codes; unread = unread }
+
+abbrev pub heldBy : Parts → Board
+heldBy p = boardIn (p .words) (p .inputs) (p .gains) (p .codes) (p .unread)
+
+-- a new board in place of a lent one. 14 leaves what was lent: "A refusal changes no lent buffer"
+abbrev pub openCall : Board → (range : ℕ) → Reply
+openCall b range =
+    record {
+      board = cond (leb range 3) (newBoard range) b;
+      answer = newCall range .answer;
+    }

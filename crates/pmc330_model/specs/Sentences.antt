@@ -1,4 +1,4 @@
--- The sentences of the data sheet. Each `Every..` is proved in proofs/Theorems.antt.
+-- The sentences of the data sheet. Each `Every..` is proved in proofs/Theorems.antt, those of the next store in proofs/NextStores.antt.
 use Prim.Native.Nat.{ℕ, suc, _+_, _-_, _*_, _/_, _%_, _≤_, _<_}
 use mathlib.Core.Bool.{Bool, true, false, not, _&&_}
 use mathlib.Core.List.{List, [], _∷_}
@@ -13,7 +13,7 @@ use Rattle.pmc330_model.specs.Words.{bitOf}
 use Rattle.pmc330_model.specs.Schedule.{isTimed, isTriggerOnly, channelOf, slotOf, endsPass, codeAt, formattedBy, isInterrupting, beginsAt, isScheduled, conversion}
 use Rattle.pmc330_model.specs.Calls.{Call, read, write, input, advance, trigger, reset}
 use Rattle.pmc330_model.specs.Questions.{callQuestions}
-use Rattle.pmc330_model.specs.Board.{boardCall, newCall, newBoard, readCall, advanceCall, requestLine, boardAfter, answersOf}
+use Rattle.pmc330_model.specs.Board.{boardCall, newCall, newBoard, readCall, advanceCall, requestLine, nextStore, boardAfter, answersOf}
 use Rattle.pmc330_model.specs.Logbook.{Event, wasReset, cycleStart, release, wasRead, store, idle, since, isIdle, Logbook, lastStore, storesSince, interrupted, dueAfter, tickPasses, ticksPass, logged, logbookOf, logbookAnswers}
 use Rattle.pmc330_model.specs.declared.Registers.{Registers}
 use Rattle.pmc330_model.specs.declared.Board.{Board}
@@ -217,3 +217,20 @@ pub record AllJoined (b : Board) (ns : List ℕ) : Type 0 where
 
 abbrev pub EveryAdvances : Type 0
 EveryAdvances = (ns : List ℕ) (b : Board) → isAccepted (advanceCall b (sumOf ns) .answer) ≡ true → AllJoined b ns
+
+-- ---- The next store
+
+-- an advance of fewer ticks makes no store, one of exactly that many makes one; 0: no advance makes any
+pub record NextStore (b : Board) (n : ℕ) : Type 0 where
+  pub fewer : (ticks : ℕ) → ticks < n → advanceCall b ticks .answer ≡ Accepted 0
+  pub exact : 0 < n → advanceCall b n .answer ≡ Accepted 1
+  pub none : n ≡ 0 → (ticks : ℕ) → valueOf (advanceCall b ticks .answer) ≡ 0
+
+abbrev pub EveryNextStore : Type 0
+EveryNextStore = (b : Board) → NextStore b (nextStore b)
+
+-- after every list of calls, 0 means more: none comes in any number of advances, however far they reach together
+abbrev pub EveryLastStore : Type 0
+EveryLastStore =
+    (range : ℕ) → range < 4 → (calls : List Call) → nextStore (boardAfter range calls) ≡ 0
+    → (ns : List ℕ) → valueOfAdvances (boardAfter range calls) ns ≡ 0

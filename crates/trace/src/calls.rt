@@ -23,6 +23,17 @@ fn signed(n: u32) -> i32
     -1 - (below as i32)
 }
 
+// The same answer, built anew: its parts are then read as they were written, and not all at once, for which the processor
+// would wait.
+fn rebuilt(answer: Answer) -> Answer
+    ensures { λ r. ⌜ r ≡ answer ⌝ }
+{
+    match answer {
+        Answer::Accepted(value) => Answer::Accepted(value),
+        Answer::Refused(number) => Answer::Refused(number),
+    }
+}
+
 fn read(
     words: &[u32; 17],
     inputs: &[i32; 32],
@@ -37,7 +48,7 @@ fn read(
 {
     let width = fields::number(&body[0..1]);
     let offset = fields::number(&body[1..3]);
-    lent::read(words, inputs, gains, codes, unread, width, offset)
+    rebuilt(lent::read(words, inputs, gains, codes, unread, width, offset))
 }
 
 fn write(
@@ -55,7 +66,7 @@ fn write(
     let width = fields::number(&body[0..1]);
     let offset = fields::number(&body[1..3]);
     let value = fields::number(&body[3..7]);
-    lent::write(words, inputs, gains, codes, unread, width, offset, value)
+    rebuilt(lent::write(words, inputs, gains, codes, unread, width, offset, value))
 }
 
 fn input(
@@ -96,7 +107,7 @@ fn advance(
     ensures board { λ _. ⌜ boardIn (now (words .exit)) (now (inputs .entry)) (now (gains .entry)) (now (codes .exit)) (now (unread .exit)) ≡ boardCall (boardIn (now (words .entry)) (now (inputs .entry)) (now (gains .entry)) (now (codes .entry)) (now (unread .entry))) (callOf 4 (now (body .entry))) .board ⌝ }
 {
     let ticks = fields::number(&body[0..4]);
-    lent::advance(words, inputs, gains, codes, unread, ticks)
+    rebuilt(lent::advance(words, inputs, gains, codes, unread, ticks))
 }
 
 // The call of a tag and a body, on the board that is lent. A tag that is no other call's is taken as reset.
@@ -126,7 +137,7 @@ pub(crate) fn call(
         return advance(words, inputs, gains, codes, unread, body);
     }
     if tag == 5 {
-        return lent::trigger(words, inputs, gains, codes, unread);
+        return rebuilt(lent::trigger(words, inputs, gains, codes, unread));
     }
     lent::reset(words, inputs, gains, codes, unread)
 }

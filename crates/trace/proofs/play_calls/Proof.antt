@@ -1,13 +1,14 @@
 -- The loop's invariant is `Playing`, of the board that the lent parts hold: what is written, with what the calls that are left
 -- will write, is what the whole trace writes.
 use borrow.Author.Needs.{needs}
-use mathlib.Core.Path.{sym, subst}
+use mathlib.Core.Path.{sym, subst, _∙_}
 use Prim.Native.Nat.{_-_}
 use native.Mathlib.Omega.{arith}
 use lib.ListN.{length}
 use Rattle.pmc330_model.specs.Board.{newCall}
 use Rattle.pmc330_model.specs.Lent.{boardIn}
 use Rattle.pmc330_model.specs.declared.Board.{Board}
+use Rattle.pmc330_model.proofs.Opening.{opened-new}
 use Rattle.trace.proofs.PlayLaws.{Playing, opening, Turn, turn, over}
 use Rattle.trace.proofs.play_calls.Statement.{statement}
 use Rattle.trace.proofs.play_calls.Tie as tie
@@ -28,7 +29,7 @@ loop-holds c =
     let start = c .before .before .before .before .before .before .before .before in
     let opened = newCall (start .args .range) .board in
     subst (λ (b : Board). Playing (start .args .trace .now) (start .args .answers .now) opened (start .args .answers .now) b 8 0)
-    (sym (c .new .ensures .1 .0))
+    (sym (c .new .ensures .1 .0 ∙ opened-new (start .args .range)))
     (opening (start .args .trace .now) (start .args .answers .now) opened (start .pre))
 
 shared-slice-read-tag : tie.Need-shared-slice-read-tag Inv-loop μ-loop

@@ -11,14 +11,16 @@ use Rattle.pmc330.proofs.lent.new.Tie as tie
 
 returns : tie.Need-returns
 unfolding answered firstNo
-returns c = rw (lt-leb _ _ (c .if1 .taken)) (refl, (refl, refl))
+returns c = rw (lt-leb (c .before .args .range) 3 (omega (arith, c .if1 .taken))) (refl, (refl, refl))
 
 element-write-words : tie.Need-element-write-words
 element-write-words c = search needs
 
 returns-2 : tie.Need-returns-2
 unfolding answered firstNo
-returns-2 c = rw (le-leb _ _ (c .if1 .left)) (refl, (ap newBoard (mod-eq-of-lt (omega arith)), refl))
+returns-2 c =
+    let tested = c .before .before .before .before .before in
+    rw (le-leb (tested .before .args .range) 3 (omega (arith, tested .if1 .left))) (refl, (ap newBoard (mod-eq-of-lt (omega arith)), refl))
 
 pub new-spec : {M : Type 1} → statement M
 new-spec = tie.close (tie.spec returns element-write-words returns-2)

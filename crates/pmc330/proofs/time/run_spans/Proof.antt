@@ -46,21 +46,21 @@ module _ (a : tie.At-loop Inv-loop μ-loop) where
       boardWith (a .loop .before) (a .before .args .inputs .now) (a .before .args .gains .now) (a .loop .codes) (a .loop .unread)
 
 -- the part that a turn runs is at most what is left, and not 0
-module _ (c : tie.After-smaller Inv-loop μ-loop) where
+module _ (c : tie.After-part-of Inv-loop μ-loop) where
   abbrev parted : tie.At-loop Inv-loop μ-loop
   parted = c .before .before
 
-  part-most : c .smaller .result ≤ parted .loop .left
-  part-most = omega (arith, c .smaller .ensures)
+  part-most : c .part-of .result ≤ parted .loop .left
+  part-most = c .part-of .ensures .0
 
-  part-some : 0 < c .smaller .result
+  part-some : 0 < c .part-of .result
   part-some =
       let ticks : 0 < parted .before .args .ticks = omega (arith, c .before .loop-test .taken, parted .loop .inv .most) in
-      omega (arith, c .smaller .ensures, c .before .loop-test .taken, parted .before .pre .0 ticks)
+      c .part-of .ensures .1 (c .before .loop-test .taken) (parted .before .pre .0 ticks)
 
 -- one turn of the loop
 module _ (c : tie.After-times-more Inv-loop μ-loop) where
-  abbrev size : tie.After-smaller Inv-loop μ-loop
+  abbrev size : tie.After-part-of Inv-loop μ-loop
   size = c .before .before .before .before .before .before .before .before
 
   abbrev a : tie.At-loop Inv-loop μ-loop
@@ -84,9 +84,9 @@ module _ (c : tie.After-times-more Inv-loop μ-loop) where
   abbrev next : Board
   next = over (ran .core)
 
-  the-turn : SpanTurn (a .before .args .ticks) (a .loop .left) (a .loop .made) (size .smaller .result) (c .times-more .result) (ran .stores) (first a) (turned (turn && eqb (c .times-more .result % 2) 1) next)
+  the-turn : SpanTurn (a .before .args .ticks) (a .loop .left) (a .loop .made) (size .part-of .result) (c .times-more .result) (ran .stores) (first a) (turned (turn && eqb (c .times-more .result % 2) 1) next)
   the-turn =
-      span-turn (a .before .args .ticks) (a .loop .left) (a .loop .made) (size .smaller .result) (first a) (now a) (a .loop .inv)
+      span-turn (a .before .args .ticks) (a .loop .left) (a .loop .made) (size .part-of .result) (first a) (now a) (a .loop .inv)
       (part-most size)
       (ran .stores)
       (c .times-more .result)
@@ -99,13 +99,13 @@ module _ (c : tie.After-times-more Inv-loop μ-loop) where
       (λ e. a .before .pre .1 (c .before .before .before .has-turned .ensures e))
       (λ e.
       let same = c .before .same-moving .ensures e in
-      came-back (size .smaller .result) turn (ran .core) (a .loop .before) (a .before .args .inputs .now) (a .before .args .gains .now) (a .loop .codes) codes-after (a .loop .unread) unread-after
+      came-back (size .part-of .result) turn (ran .core) (a .loop .before) (a .before .args .inputs .now) (a .before .args .gains .now) (a .loop .codes) codes-after (a .loop .unread) unread-after
       (c .before .before .before .before .before .run-any .ensures .0 .board)
       (c .before .before .before .before .before .run-any .ensures .1 (same .0))
       (subst (SameCore (ran .core)) (c .before .before .turned-if .ensures) (same .1)))
 
-smaller-requires : tie.Need-smaller-requires Inv-loop μ-loop
-smaller-requires c κs = search needs
+part-of-requires : tie.Need-part-of-requires Inv-loop μ-loop
+part-of-requires c κs = search needs
 
 run-any-requires : tie.Need-run-any-requires Inv-loop μ-loop
 run-any-requires c κs = search needs
@@ -173,7 +173,7 @@ run-spans-spec =
     Inv-loop
     μ-loop
     loop-holds
-    smaller-requires
+    part-of-requires
     run-any-requires
     sub-rest
     has-turned-requires

@@ -1,5 +1,5 @@
 -- By the board's promise, with the number of the body.
-use mathlib.Core.Path.{ap}
+use mathlib.Core.Path.{ap, _∙_}
 use Rattle.pmc330_model.specs.Calls.{advance}
 use Prim.Native.Nat.{ℕ}
 use Rattle.pmc330_model.specs.Board.{boardCall}
@@ -25,12 +25,15 @@ number-requires c κs = search needs
 advance-requires : tie.Need-advance-requires
 advance-requires c κs = search needs
 
+rebuilt-requires : tie.Need-rebuilt-requires
+rebuilt-requires c κs = search needs
+
 returns : tie.Need-returns
 unfolding callOf
 returns c =
-    let a = c .before .before .before .before .before .before .before .args in
+    let a = c .before .before .before .before .before .before .before .before .args in
     let b = boardIn (a .words .now) (a .inputs .now) (a .gains .now) (a .codes .now) (a .unread .now) in
-    replied (ap (λ (n : ℕ). boardCall b (advance n)) (c .before .before .before .before .number .ensures)) (c .advance .ensures .0) (c .advance .ensures .1 .0)
+    replied (ap (λ (n : ℕ). boardCall b (advance n)) (c .before .before .before .before .before .number .ensures)) (c .rebuilt .ensures ∙ c .before .advance .ensures .0) (c .before .advance .ensures .1 .0)
 
 pub advance-spec : {M : Type 1} → statement M
 advance-spec =
@@ -41,4 +44,5 @@ advance-spec =
     part-number-end
     number-requires
     advance-requires
+    rebuilt-requires
     returns)

@@ -48,11 +48,14 @@ returns-4 c =
 trigger-requires : tie.Need-trigger-requires
 trigger-requires c κs = search needs
 
+rebuilt-requires : tie.Need-rebuilt-requires
+rebuilt-requires c κs = search needs
+
 returns-5 : tie.Need-returns-5
 unfolding callOf
 returns-5 c =
-    let a = c .before .before .before .before .before .before .before .before .before .before .before .before .args in
-    replied (same-tag (boardIn (a .words .now) (a .inputs .now) (a .gains .now) (a .codes .now) (a .unread .now)) (a .body .now) (sym (c .before .before .before .before .before .before .if5 .taken))) (c .trigger .ensures .0) (c .trigger .ensures .1 .0)
+    let a = c .before .before .before .before .before .before .before .before .before .before .before .before .before .args in
+    replied (same-tag (boardIn (a .words .now) (a .inputs .now) (a .gains .now) (a .codes .now) (a .unread .now)) (a .body .now) (sym (c .before .before .before .before .before .before .before .if5 .taken))) (c .rebuilt .ensures ∙ c .before .trigger .ensures .0) (c .before .trigger .ensures .1 .0)
 
 reset-requires : tie.Need-reset-requires
 reset-requires c κs = search needs
@@ -77,6 +80,7 @@ call-spec =
     advance-requires
     returns-4
     trigger-requires
+    rebuilt-requires
     returns-5
     reset-requires
     returns-6)

@@ -1,5 +1,5 @@
 -- By the board's promise, with the numbers of the body.
-use mathlib.Core.Path.{ap₂}
+use mathlib.Core.Path.{ap₂, _∙_}
 use Rattle.pmc330_model.specs.Calls.{read}
 use Prim.Native.Nat.{ℕ}
 use Rattle.pmc330_model.specs.Board.{boardCall}
@@ -37,14 +37,17 @@ number-requires-2 c κs = search needs
 read-requires : tie.Need-read-requires
 read-requires c κs = search needs
 
+rebuilt-requires : tie.Need-rebuilt-requires
+rebuilt-requires c κs = search needs
+
 returns : tie.Need-returns
 unfolding callOf
 returns c =
-    let a = c .before .before .before .before .before .before .before .args in
+    let a = c .before .before .before .before .before .before .before .before .args in
     let b = boardIn (a .words .now) (a .inputs .now) (a .gains .now) (a .codes .now) (a .unread .now) in
-    replied (ap₂ (λ (w o : ℕ). boardCall b (read w o)) (c .before .before .before .before .number .ensures) (c .before .before .number2 .ensures))
-    (c .read .ensures .0)
-    (c .read .ensures .1)
+    replied (ap₂ (λ (w o : ℕ). boardCall b (read w o)) (c .before .before .before .before .before .number .ensures) (c .before .before .before .number2 .ensures))
+    (c .rebuilt .ensures ∙ c .before .read .ensures .0)
+    (c .before .read .ensures .1)
 
 pub read-spec : {M : Type 1} → statement M
 read-spec =
@@ -59,4 +62,5 @@ read-spec =
     part-number-end-2
     number-requires-2
     read-requires
+    rebuilt-requires
     returns)

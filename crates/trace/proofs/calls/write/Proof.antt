@@ -5,6 +5,7 @@ use Rattle.pmc330_model.specs.Lent.{boardIn}
 use Rattle.trace.specs.Grammar.{callOf}
 use Rattle.trace.proofs.CallLaws.{replied}
 use borrow.Author.Needs.{needs}
+use mathlib.Core.Path.{_∙_}
 use Rattle.trace.proofs.calls.write.Statement.{statement}
 use Rattle.trace.proofs.calls.write.Tie as tie
 
@@ -47,14 +48,17 @@ number-requires-3 c κs = search needs
 write-requires : tie.Need-write-requires
 write-requires c κs = search needs
 
+rebuilt-requires : tie.Need-rebuilt-requires
+rebuilt-requires c κs = search needs
+
 returns : tie.Need-returns
 unfolding callOf
 returns c =
-    let a = c .before .before .before .before .before .before .before .before .before .before .before .args in
+    let a = c .before .before .before .before .before .before .before .before .before .before .before .before .args in
     let b = boardIn (a .words .now) (a .inputs .now) (a .gains .now) (a .codes .now) (a .unread .now) in
-    replied (λ i. boardCall b (write (c .before .before .before .before .before .before .before .before .number .ensures i) (c .before .before .before .before .before .before .number2 .ensures i) (c .before .before .before .before .number3 .ensures i)))
-    (c .write .ensures .0)
-    (c .write .ensures .1 .0)
+    replied (λ i. boardCall b (write (c .before .before .before .before .before .before .before .before .before .number .ensures i) (c .before .before .before .before .before .before .before .number2 .ensures i) (c .before .before .before .before .before .number3 .ensures i)))
+    (c .rebuilt .ensures ∙ c .before .write .ensures .0)
+    (c .before .write .ensures .1 .0)
 
 pub write-spec : {M : Type 1} → statement M
 write-spec =
@@ -73,4 +77,5 @@ write-spec =
     part-number-end-3
     number-requires-3
     write-requires
+    rebuilt-requires
     returns)
