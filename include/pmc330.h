@@ -1,6 +1,7 @@
 /* The virtual PMC330: what a C program (C99 or later, or C++) links from libpmc330_c.a.
    A simulator holds boards and steps them call by call (pmc330_board, pmc330_open and what follows it), or hands
-   over a whole list of calls (pmc330_play). Two functions need no board: pmc330_corrected and pmc330_code.
+   over a whole list of calls (pmc330_play). Three functions need no board: pmc330_corrected, pmc330_code and
+   pmc330_window.
    Each function answers all numbers that it can be given, and ends. None fails, allocates, or keeps anything behind
    the caller's back. Pointers are the caller's to get right: none may be NULL. */
 #ifndef PMC330_H
@@ -148,13 +149,13 @@ extern "C" {
 #define PMC330_INPUT_MAX    55000000
 #define PMC330_ADVANCE_MAX  16777216U    /* ticks */
 #define PMC330_TRACE_MAX    16777216U    /* bytes */
-#define PMC330_SUM_MAX      2097120U     /* the sum of 32 codes */
+#define PMC330_SUM_MAX      2097120U     /* the greatest sum of 32 codes: of a calibration, or of a window */
 #define PMC330_CODE_MAX     65535U
 
 /* ---- Results: 256 * value (or calls answered) + number ----
    Number 0: the call was accepted, and value is what a read read, for an advance the number of stores made in it,
-   for a correction its count, else 0. Otherwise the call was refused: it did nothing, value is 0, and number says
-   why, the first that holds.
+   for a correction its count, for a window how many codes the last sum holds, else 0. Otherwise the call was refused:
+   it did nothing, value is 0, and number says why, the first that holds.
    Triggers and resets are always accepted; a trigger that cannot act is ignored.
    Keep a result in a variable: a call inside both macros would be made twice. */
 #define PMC330_NUMBER(result) ((uint32_t)((result) % 256U))
@@ -190,7 +191,10 @@ extern "C" {
 /* pmc330_play */
 #define PMC330_BAD_HEADING      18U
 #define PMC330_BAD_FIELD        19U
+/* pmc330_play and pmc330_window */
 #define PMC330_SHORT_BUFFER     20U
+/* pmc330_window, looked at before 20 */
+#define PMC330_BAD_WINDOW       21U  /* a window length other than 8, 16, 32 */
 
 /* ---- A board that a simulator holds ----
    The caller owns the memory: a board is this struct and nothing else, wherever C lets it lie. It holds numbers and
@@ -296,6 +300,23 @@ uint64_t pmc330_corrected(uint32_t range, uint32_t gain, uint32_t high, uint32_t
    rounded down and limited to 0 to 65,535.
    range and gain as above; of any other number the remainder by 4 counts. */
 uint32_t pmc330_code(uint32_t range, uint32_t gain, int32_t microvolts);
+
+/* The running average of a channel's readings, as sums: after each code of a run the sum of the last ones.
+     length            how many codes a full window holds: 8, 16 or 32
+     codes, codes_len  the run of straight codes, the oldest first; any 16-bit numbers are added as they are
+     sums, sums_len    the output: at least one place a code; it must not overlap the codes
+   Each call starts with an empty window. sums[k] becomes the sum of the last `length` codes up to codes[k], or of all
+   so far where these are fewer: of the smaller of length and k + 1. The average is the sum over that number.
+   Returns 256 * count + number. Number 0: accepted, count is how many codes the last sum holds, the smaller of length
+   and codes_len (0 for an empty run), and places past the run are as they were. Otherwise every place is as it was,
+   count is 0, and number says what is wrong, the first of:
+     21  a length other than 8, 16 or 32
+     20  fewer places than codes
+   A code costs one addition and, once the window is full, one subtraction, at any length.
+   To go on after a run, put in front of the next one the length - 1 codes that came before it, or all where there were
+   fewer, and pass over their sums.
+   codes_len or sums_len may be 0; its pointer must then still not be NULL. */
+uint64_t pmc330_window(uint32_t length, const uint16_t *codes, size_t codes_len, uint32_t *sums, size_t sums_len);
 
 /* ---- Traces: tags, lengths of the bodies, sizes ---- */
 #define PMC330_TAG_HEADING    0x00U

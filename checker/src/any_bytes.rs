@@ -2,12 +2,13 @@
 //! answers and ends, and a refused call leaves every byte as it was"; the next store holds of them too.
 
 use crate::analog::Answer;
+use crate::archive::answer_of;
 use crate::board::{Board, LONGEST_ADVANCE};
 use crate::call::Step;
 use crate::coverage::{kind, Coverage, Kind};
 use crate::generator::{next_calls, scenes};
 use crate::random::Random;
-use crate::stepped::{answer_of, SteppedBoard, BYTES};
+use crate::stepped::{SteppedBoard, BYTES};
 use crate::stepping::beyond_a_trace;
 
 /// What is drawn: how the bytes come about.

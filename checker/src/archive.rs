@@ -15,10 +15,18 @@ extern "C" {
     fn pmc330_code(range: u32, gain: u32, microvolts: i32) -> u32;
 }
 
-/// The archive's answer to a correction: 256 * value + number.
+/// The archive packs an answer as 256 * value + number.
+pub fn answer_of(result: u64) -> Answer {
+    Answer {
+        number: result % 256,
+        value: result / 256,
+    }
+}
+
+/// The archive's answer to a correction.
 pub fn corrected(call: &Correction) -> Answer {
     // Safe: plain numbers go in and out, and no memory is lent.
-    let word = unsafe {
+    answer_of(unsafe {
         pmc330_corrected(
             call.range,
             call.gain,
@@ -28,17 +36,37 @@ pub fn corrected(call: &Correction) -> Answer {
             call.low_sum,
             call.raw,
         )
-    };
-    Answer {
-        number: word % 256,
-        value: word / 256,
-    }
+    })
 }
 
 /// The archive's straight-binary code of a voltage. Only the remainders by 4 of range and gain count.
 pub fn code(range: u32, gain: u32, microvolts: i32) -> u32 {
     // Safe: plain numbers go in and out, and no memory is lent.
     unsafe { pmc330_code(range, gain, microvolts) }
+}
+
+extern "C" {
+    fn pmc330_window(
+        length: u32,
+        codes: *const u16,
+        codes_len: usize,
+        sums: *mut u32,
+        sums_len: usize,
+    ) -> u64;
+}
+
+/// The archive's sums over a window; the value is how many codes the last one holds.
+pub fn window(length: u32, codes: &[u16], sums: &mut [u32]) -> Answer {
+    // Safe: both buffers are lent with their lengths for this call only, and they are apart.
+    answer_of(unsafe {
+        pmc330_window(
+            length,
+            codes.as_ptr(),
+            codes.len(),
+            sums.as_mut_ptr(),
+            sums.len(),
+        )
+    })
 }
 
 /// A player: from a trace and an answer buffer to 256 * calls answered + number.
@@ -51,7 +79,7 @@ extern "C" {
 
 /// The archive's player: 256 * calls answered + number.
 pub fn play(trace: &[u8], answers: &mut [u8]) -> u64 {
-    // Safe: both buffers are lent with their lengths for this call only, and they are apart.
+    // Safe: as above.
     unsafe {
         pmc330_play(
             trace.as_ptr(),

@@ -1,5 +1,6 @@
-//! The other program: a virtual PMC330 made from 01-scope.md and the manuals alone, to be compared
-//! with the archive. Nothing here is taken from the product's own definitions or code.
+//! The other program: a virtual PMC330 made from 01-scope.md, the requests after it
+//! (02-change-requests.md) and the manuals alone, to be compared with the archive. Nothing here is
+//! taken from the product's own definitions or code.
 
 // A remainder is as plain as `is_multiple_of`, and older compilers know it.
 #![allow(clippy::manual_is_multiple_of)]
@@ -24,3 +25,4 @@ pub mod stepped;
 pub mod stepping;
 pub mod stored;
 pub mod trace;
+pub mod window;

@@ -2,6 +2,7 @@
 //! makes on it. They go through the header's own lines of C (`header.c`).
 
 use crate::analog::Answer;
+use crate::archive::answer_of;
 use crate::board::Board;
 use crate::call::{Call, Step};
 
@@ -122,14 +123,6 @@ impl SteppedBoard {
             Call::Trigger => self.trigger(),
             Call::Reset => self.reset(),
         }
-    }
-}
-
-/// 256 * value + number.
-pub fn answer_of(result: u64) -> Answer {
-    Answer {
-        number: result % 256,
-        value: result / 256,
     }
 }
 

@@ -1,9 +1,11 @@
 //! How fast the archive plays, beside the independent program and, if PMC330_OLD_ARCHIVE named one
 //! when this was built, beside an older archive: mixed traces, single kinds of calls, a short, a
 //! longer and the longest advance in each scan mode, the longest trace, and the same calls stepped one
-//! by one. Best of several rounds, the players in turn within a round.
+//! by one; and how fast it sums over a window, beside a plain loop. Best of several rounds, the players
+//! in turn within a round.
 //!
-//! Run it with `cargo run --release --offline --bin benchmark`; with `-- stepping` only that part.
+//! Run it with `cargo run --release --offline --bin benchmark`; with `-- stepping` or `-- window` only
+//! that part.
 
 use checker::archive::{self, Player, OLD_PLAYER};
 use checker::board::LONGEST_ADVANCE;
@@ -13,6 +15,7 @@ use checker::one_kind::{kinds, started, write_16, Kind};
 use checker::random::Random;
 use checker::stepped::SteppedBoard;
 use checker::trace::{self, decoded, trace_of};
+use checker::window::{plain, Window, LENGTHS};
 use std::hint::black_box;
 use std::time::Instant;
 
@@ -54,17 +57,24 @@ fn timed(load: &Load, player: Player, times: usize, answers: &mut [u8]) -> f64 {
     start.elapsed().as_secs_f64()
 }
 
-/// One round of a load: the players in turn, so that a slow moment of the machine meets them all.
-/// Each round begins with another one of them. Keeps the best nanoseconds of each.
+/// One round of those that are compared, in turn, so that a slow moment of the machine meets them all.
+/// Each round begins with another one of them. Keeps the best nanoseconds of each for one of what is
+/// counted.
+fn in_turn(round: usize, counted: usize, best: &mut [f64], mut seconds: impl FnMut(usize) -> f64) {
+    for turn in 0..best.len() {
+        let which = (round + turn) % best.len();
+        let nanoseconds = seconds(which) * 1e9 / counted as f64;
+        best[which] = best[which].min(nanoseconds);
+    }
+}
+
+/// One round of a load.
 fn play_a_round(load: &Load, players: &[Player], round: usize, best: &mut [f64]) {
     let times = CALLS_IN_A_ROUND.div_ceil(load.calls);
     let mut answers = vec![vec![0; 5 * load.calls]; players.len()];
-    for turn in 0..players.len() {
-        let which = (round + turn) % players.len();
-        let seconds = timed(load, players[which], times, &mut answers[which]);
-        let nanoseconds = seconds * 1e9 / (times * load.counted) as f64;
-        best[which] = best[which].min(nanoseconds);
-    }
+    in_turn(round, times * load.counted, best, |which| {
+        timed(load, players[which], times, &mut answers[which])
+    });
     for other in &answers[1..] {
         assert!(*other == answers[0], "{}: answers differ", load.name);
     }
@@ -238,20 +248,15 @@ fn sum_of(answers: &[u8]) -> u64 {
     answers.chunks_exact(5).map(result).sum()
 }
 
-/// One round: stepped and played, each first in every other one. Keeps the best nanoseconds of both.
+/// One round: stepped and played.
 fn step_a_round(load: &Load, calls: &[Call], round: usize, best: &mut [f64; 2]) {
     let times = CALLS_IN_A_ROUND.div_ceil(load.calls);
     let mut answers = vec![0; 5 * load.calls];
     let mut sum = 0;
-    for turn in 0..2 {
-        let which = (round + turn) % 2;
-        let seconds = match which {
-            0 => timed_steps(calls, times, &mut sum),
-            _ => timed(load, archive::play, times, &mut answers),
-        };
-        let nanoseconds = seconds * 1e9 / (times * load.counted) as f64;
-        best[which] = best[which].min(nanoseconds);
-    }
+    in_turn(round, times * load.counted, best, |which| match which {
+        0 => timed_steps(calls, times, &mut sum),
+        _ => timed(load, archive::play, times, &mut answers),
+    });
     assert_eq!(
         sum,
         times as u64 * sum_of(&answers),
@@ -315,9 +320,85 @@ fn stepping() {
     }
 }
 
+// The window: a run of codes, and the sum of the last ones after each.
+
+/// Codes in a run: a few more than the longest window, and many.
+const RUNS: [usize; 2] = [40, 4_096];
+
+const CODES_IN_A_ROUND: usize = 1_000_000;
+
+/// The archive, and a loop that one would write in Rust.
+const WINDOWS: [Window; 2] = [archive::window, plain];
+
+struct Run {
+    length: u32,
+    codes: Vec<u16>,
+}
+
+fn runs() -> Vec<Run> {
+    let mut random = Random::new(8);
+    let mut run_of = |length, count| Run {
+        length,
+        codes: (0..count).map(|_| random.bits() as u16).collect(),
+    };
+    LENGTHS
+        .iter()
+        .flat_map(|length| RUNS.map(|count| run_of(*length, count)))
+        .collect()
+}
+
+/// Seconds that a window takes for a run, so many times. Window and length are hidden from the
+/// compiler, so that it makes no code for this one case, and the sums count as read, so that it leaves
+/// none of them out.
+fn timed_window(run: &Run, window: Window, times: usize, sums: &mut [u32]) -> f64 {
+    let start = Instant::now();
+    for _ in 0..times {
+        let answer = black_box(window)(black_box(run.length), black_box(&run.codes), sums);
+        assert_eq!(answer.number, 0);
+        black_box(&mut *sums);
+    }
+    start.elapsed().as_secs_f64()
+}
+
+fn window_a_round(run: &Run, round: usize, best: &mut [f64; 2]) {
+    let times = CODES_IN_A_ROUND.div_ceil(run.codes.len());
+    let mut sums = [0, 1].map(|filling| vec![filling; run.codes.len()]);
+    in_turn(round, times * run.codes.len(), best, |which| {
+        timed_window(run, WINDOWS[which], times, &mut sums[which])
+    });
+    assert!(sums[0] == sums[1], "length {}: sums differ", run.length);
+}
+
+fn window() {
+    let runs = runs();
+    let mut best = vec![[f64::INFINITY; 2]; runs.len()];
+    for round in 0..ROUNDS {
+        for (run, best) in runs.iter().zip(&mut best) {
+            window_a_round(run, round, best);
+        }
+    }
+    println!(
+        "{:<32}{:>9}{:>24}{:>24}{:>10}",
+        "window, each code", "codes", "archive", "plain loop", "/ plain"
+    );
+    for (run, [archive, plain]) in runs.iter().zip(best) {
+        // A code in n nanoseconds is 1000 / n million codes a second.
+        println!(
+            "{:<32}{:>9}{archive:>9.3} ns{:>8.0} M/s{plain:>9.3} ns{:>8.0} M/s{:>10.3}",
+            format!("N = {}", run.length),
+            run.codes.len(),
+            1e3 / archive,
+            1e3 / plain,
+            archive / plain
+        );
+    }
+}
+
 fn main() {
-    if std::env::args().nth(1).as_deref() == Some("stepping") {
-        return stepping();
+    match std::env::args().nth(1).as_deref() {
+        Some("stepping") => return stepping(),
+        Some("window") => return window(),
+        _ => (),
     }
     mixed();
     println!();
@@ -328,4 +409,6 @@ fn main() {
     longest_trace();
     println!();
     stepping();
+    println!();
+    window();
 }

@@ -20,7 +20,7 @@ abbrev pub isAccepted : Answer → Bool
 isAccepted (Accepted value) = true
 isAccepted (Refused number) = false
 
--- a question that a call is asked: its number in document 01, and whether its answer is yes
+-- a question that a call is asked: its number in document 01 or 02, and whether its answer is yes
 pub record Question : Type 0 where
   pub number : ℕ
   pub met : Bool

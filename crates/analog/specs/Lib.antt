@@ -1,4 +1,5 @@
 pub mod Answers
+pub mod Sums
 pub mod Fractions
 pub mod Code
 pub mod Correction

@@ -7,6 +7,7 @@ ghost use Rattle.analog.specs.Code.{codeOf};
 ghost use Rattle.analog.specs.Correction.{correctedAnswer};
 ghost use lib.ListN.{length};
 ghost use Rattle.trace.specs.Play.{playedResult, playedBuffer};
+ghost use Rattle.window.specs.Window.{windowAnswer, windowOutput};
 use analog::Answer;
 
 // An answer as one number, 256 × value + number.
@@ -41,6 +42,15 @@ pub extern "C" fn pmc330_code(range: u32, gain: u32, microvolts: i32) -> u32
     ensures { λ r. ⌜ r ≡ codeOf range gain microvolts ⌝ }
 {
     analog::code(range, gain, microvolts) as u32
+}
+
+// The sums of a running average's window: 256 × how many codes the last sum holds + number.
+#[no_mangle]
+pub extern "C" fn pmc330_window(length: u32, codes: &[u16], sums: &mut [u32]) -> u64
+    ensures result { λ r. ⌜ r ≡ packed (windowAnswer length (now (codes .entry)) (now (sums .entry))) ⌝ }
+    ensures output { λ r. ⌜ now (sums .exit) ≡ windowOutput length (now (codes .entry)) (now (sums .entry)) ⌝ }
+{
+    packed_answer(window::window_sums(length, codes, sums))
 }
 
 // A trace played on a new board, its answers put into the lent buffer: 256 × calls answered + number.

@@ -8,13 +8,14 @@ use native.Mathlib.Nat.{zero-add, add-assoc, suc-add}
 use native.Mathlib.Omega.{arith}
 use borrow.Author.Tests.{ne-eqb, le-leb, lt-leb}
 use Rattle.analog.specs.Answers.{Question, firstNo, answered, valueOf, isAccepted}
+use Rattle.analog.specs.Sums.{sumOf}
 use Rattle.analog.specs.declared.Answer.the-variants.{Accepted}
 use Rattle.analog.proofs.AnswerLaws.{numbered, some-first, answered-by}
 use Rattle.pmc330_model.specs.Calls.{Call}
 use Rattle.pmc330_model.specs.Board.{newBoard, ticked, advanced, isStoreDue, storesIn, questionsOf, afterCall, valueOfCall, boardCall, advanceCall, boardFrom, answersFrom, boardAfter}
 use Rattle.pmc330_model.specs.Logbook.{Running, since, Logbook, wasReset, idle, newLogbook, logged, loggedAnswer, loggedFrom, loggedAnswersFrom, logbookOf}
 use Rattle.pmc330_model.specs.Questions.{callQuestions}
-use Rattle.pmc330_model.specs.Sentences.{Sentence1, Sentence3, EveryCall1, AfterList1, EveryList1, EveryNew1, EveryAnswer, EveryList3, Scheduled, EverySchedule, EveryTick, EveryPair, EveryAdvances, sumOf, boardAfterAdvances, valueOfAdvances}
+use Rattle.pmc330_model.specs.Sentences.{Sentence1, Sentence3, EveryCall1, AfterList1, EveryList1, EveryNew1, EveryAnswer, EveryList3, Scheduled, EverySchedule, EveryTick, EveryPair, EveryAdvances, boardAfterAdvances, valueOfAdvances}
 use Rattle.pmc330_model.specs.declared.Board.{Board}
 use Rattle.pmc330_model.proofs.Agreement.{bookOf, Startable, CycleAgrees, Related}
 use Rattle.pmc330_model.proofs.CallsAgree.{questions-same, answer-same, call-agrees}

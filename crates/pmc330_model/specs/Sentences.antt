@@ -7,6 +7,7 @@ use lib.Dec.{leb}
 use lib.ListN.{length}
 use Rattle.analog.specs.Answers.{Question, allMet, valueOf, isAccepted}
 use Rattle.analog.specs.Sentences.{AnsweredBy}
+use Rattle.analog.specs.Sums.{sumOf}
 use Rattle.analog.specs.declared.Answer.the-variants.{Accepted, Refused}
 use Rattle.pmc330_model.specs.Map.{triggerField}
 use Rattle.pmc330_model.specs.Words.{bitOf}
@@ -194,10 +195,6 @@ abbrev pub EveryPair : Type 0
 EveryPair = (b : Board) (n k : ℕ) → isAccepted (advanceCall b (n + k) .answer) ≡ true → Joined b n k
 
 -- and any list of advances whose sum is accepted
-unfoldable pub sumOf : List ℕ → ℕ
-sumOf [] = 0
-sumOf (n ∷ ns) = n + sumOf ns
-
 unfoldable pub boardAfterAdvances : Board → List ℕ → Board
 boardAfterAdvances b [] = b
 boardAfterAdvances b (n ∷ ns) = boardAfterAdvances (advanceCall b n .board) ns

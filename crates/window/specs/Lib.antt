@@ -1,0 +1,3 @@
+pub mod Window
+pub mod Machine
+pub mod Sentences
