@@ -36,8 +36,8 @@ extern "C" {
    of its slot: the channel, and in differential 16 more in the second, fourth, .. pass of the cycle. The voltage is
    the channel's input, in differential too, and in a calibration acquisition that calibration's.
    A store sets its slot's New bit, and the Missed bit too if New was set already: Missed says that one or more codes
-   were lost. Reading a mailbox clears both bits of its slot, a start (or a trigger that starts) those of all slots;
-   codes stay until the next store or a reset.
+   were lost. A read of a mailbox, or pmc330_clear, drops both bits of its slot, a start (or a trigger that starts)
+   those of all slots; codes stay until the next store or a reset.
    A store that the interrupt field names sets pending, enabled or not, and it stays until a release or a reset. The
    request line is enable and pending, so only stores, writes to Interrupt and resets move it.
    A stop (Control with scan off) drops the conversion in progress; mailboxes, bits and pending stay. */
@@ -154,8 +154,9 @@ extern "C" {
 
 /* ---- Results: 256 * value (or calls answered) + number ----
    Number 0: the call was accepted, and value is what a read read, for an advance the number of stores made in it,
-   for a correction its count, for a window how many codes the last sum holds, else 0. Otherwise the call was refused:
-   it did nothing, value is 0, and number says why, the first that holds.
+   for a look the code with the slot's bits (PMC330_LOOK_..), for a correction its count, for a window how many codes
+   the last sum holds, else 0. Otherwise the call was refused: it did nothing, value is 0, and number says why, the
+   first that holds.
    Triggers and resets are always accepted; a trigger that cannot act is ignored.
    Keep a result in a variable: a call inside both macros would be made twice. */
 #define PMC330_NUMBER(result) ((uint32_t)((result) % 256U))
@@ -195,6 +196,13 @@ extern "C" {
 #define PMC330_SHORT_BUFFER     20U
 /* pmc330_window, looked at before 20 */
 #define PMC330_BAD_WINDOW       21U  /* a window length other than 8, 16, 32 */
+/* looks and clears */
+#define PMC330_BAD_SLOT         22U  /* a slot above 31 */
+
+/* A look's value, PMC330_VALUE(result): the code in the mailbox, 65536 more if New and 131072 more if Missed. */
+#define PMC330_LOOK_CODE(value) ((value) & 0xFFFFU)
+#define PMC330_LOOK_NEW         0x10000U
+#define PMC330_LOOK_MISSED      0x20000U
 
 /* ---- A board that a simulator holds ----
    The caller owns the memory: a board is this struct and nothing else, wherever C lets it lie. It holds numbers and
@@ -230,6 +238,8 @@ uint64_t pmc330_parts_trigger(uint32_t words[17], const int32_t inputs[32], cons
                               uint16_t codes[32], uint8_t unread[32]);
 uint64_t pmc330_parts_reset(uint32_t words[17], const int32_t inputs[32], uint8_t gains[32], uint16_t codes[32],
                             uint8_t unread[32]);
+uint64_t pmc330_parts_look(const uint16_t codes[32], const uint8_t unread[32], uint32_t slot);
+uint64_t pmc330_parts_clear(uint8_t unread[32], uint32_t slot);
 uint32_t pmc330_parts_line(const uint32_t words[17]);
 uint32_t pmc330_parts_next_store(const uint32_t words[17]);
 
@@ -240,7 +250,7 @@ static inline uint64_t pmc330_open(pmc330_board *board, uint32_t range) {
 }
 
 /* A register read of width 8, 16 or 32; the value is what was read. A mailbox read clears its slot's New and Missed
-   bits, and no other read changes the board. */
+   bits, and no other read changes the board; pmc330_look shows a mailbox and clears nothing. */
 static inline uint64_t pmc330_read(pmc330_board *board, uint32_t width, uint32_t offset) {
     return pmc330_parts_read(board->words, board->inputs, board->gains, board->codes, board->unread, width, offset);
 }
@@ -271,6 +281,21 @@ static inline uint64_t pmc330_trigger(pmc330_board *board) {
 /* A reset: a new board, but with its range and its inputs. */
 static inline uint64_t pmc330_reset(pmc330_board *board) {
     return pmc330_parts_reset(board->words, board->inputs, board->gains, board->codes, board->unread);
+}
+
+/* A look at the mailbox of a slot, 0 to 31: the value is its code, with PMC330_LOOK_NEW and PMC330_LOOK_MISSED where
+   these bits are set. It changes nothing: a front panel may look between any two calls, also while a cycle runs, and
+   takes nothing from the driver that is still to read. The code is as it was stored, in Control's format then; 0 if
+   nothing was stored there since the reset. */
+static inline uint64_t pmc330_look(const pmc330_board *board, uint32_t slot) {
+    return pmc330_parts_look(board->codes, board->unread, slot);
+}
+
+/* A clear of a slot, 0 to 31: drops its New and Missed bits, as a read of its mailbox does; the code stays. A look and
+   then a clear leave the board as that read does, and a clear alone too. Pending stays; the value is 0. Accepted while a
+   cycle runs. */
+static inline uint64_t pmc330_clear(pmc330_board *board, uint32_t slot) {
+    return pmc330_parts_clear(board->unread, slot);
 }
 
 /* The request line, 0 or 1: the interrupt is enabled and pending. */
@@ -326,6 +351,8 @@ uint64_t pmc330_window(uint32_t length, const uint16_t *codes, size_t codes_len,
 #define PMC330_TAG_ADVANCE    0x04U
 #define PMC330_TAG_TRIGGER    0x05U
 #define PMC330_TAG_RESET      0x06U
+#define PMC330_TAG_LOOK       0x07U
+#define PMC330_TAG_CLEAR      0x08U
 #define PMC330_LENGTH_HEADING 5U
 #define PMC330_LENGTH_READ    3U
 #define PMC330_LENGTH_WRITE   7U
@@ -333,6 +360,8 @@ uint64_t pmc330_window(uint32_t length, const uint16_t *codes, size_t codes_len,
 #define PMC330_LENGTH_ADVANCE 4U
 #define PMC330_LENGTH_TRIGGER 0U
 #define PMC330_LENGTH_RESET   0U
+#define PMC330_LENGTH_LOOK    1U
+#define PMC330_LENGTH_CLEAR   1U
 #define PMC330_FIELD_HEAD     3U      /* bytes before a body: the tag and the length */
 #define PMC330_HEADING        "A330"  /* the heading's four fixed bytes (and C's closing 0, which is not put) */
 #define PMC330_ANSWER_BYTES   5U      /* of each call: number (1), value (4) */
@@ -348,9 +377,12 @@ uint64_t pmc330_window(uint32_t length, const uint16_t *codes, size_t codes_len,
      04H  length 4   advance: ticks of 1/8 microsecond, at most 16,777,216 (4)
      05H  length 0   external trigger
      06H  length 0   reset
+     07H  length 1   look: slot 0 to 31 (1)
+     08H  length 1   clear: slot 0 to 31 (1)
    Each call's answer is 5 bytes: number (1) and value (4). Number 0: the call was accepted, and value
-   is the value read, for an advance the number of stores made in it, else 0. Otherwise the board stays
-   as it was, value is 0, the trace goes on, and number says why: 1 to 13.
+   is the value read, for a look its code and bits (PMC330_LOOK_..), for an advance the number of stores
+   made in it, else 0. Otherwise the board stays as it was, value is 0, the trace goes on, and number says
+   why: 1 to 13 or 22.
    Returns 256 * calls answered + number. Number 0: the answers stand at the front of the buffer, in
    order, and the bytes beyond them are as they were. Otherwise the whole buffer is as it was, no call
    was made, and number says what is wrong, the first of:

@@ -4,7 +4,7 @@
     trace_text.py encode < calls.txt > calls.trace
     trace_text.py decode < calls.trace
 
-The text: first `range N`, then one call a line, as document 01 writes them:
+The text: first `range N`, then one call a line, as document 01 writes them, and document 02's look and clear:
 
     read WIDTH OFFSET
     write WIDTH OFFSET VALUE
@@ -12,6 +12,8 @@ The text: first `range N`, then one call a line, as document 01 writes them:
     advance TICKS
     trigger
     reset
+    look SLOT
+    clear SLOT
 
 A number is decimal, or hexadecimal with a trailing H. What follows a # is a comment.
 Numbers that a board would refuse are encoded as they are, if they fit their field.
@@ -27,6 +29,8 @@ CALLS = {
     "advance": (0x04, [("ticks", 4, False)]),
     "trigger": (0x05, []),
     "reset": (0x06, []),
+    "look": (0x07, [("slot", 1, False)]),
+    "clear": (0x08, [("slot", 1, False)]),
 }
 HEADING = b"A330"
 

@@ -1,5 +1,6 @@
 //! Structs with any bytes in them, also such that no calls lead to. "Whatever they contain, every call
 //! answers and ends, and a refused call leaves every byte as it was"; the next store holds of them too.
+//! So it is with looks and clears: a look leaves every byte, a clear all but one, and a mailbox read is both.
 
 use crate::analog::Answer;
 use crate::archive::answer_of;
@@ -7,8 +8,9 @@ use crate::board::{Board, LONGEST_ADVANCE};
 use crate::call::Step;
 use crate::coverage::{kind, Coverage, Kind};
 use crate::generator::{next_calls, scenes};
+use crate::looks::check_reads;
 use crate::random::Random;
-use crate::stepped::{SteppedBoard, BYTES};
+use crate::stepped::{changes_what_it_may, SteppedBoard, BYTES};
 use crate::stepping::beyond_a_trace;
 
 /// What is drawn: how the bytes come about.
@@ -26,7 +28,13 @@ pub enum Moment {
     /// A struct as it was drawn, and its next store.
     Drawn { style: usize, next_store: u32 },
     /// A call on it or on what became of it.
-    Made { style: usize, answer: Answer },
+    Made {
+        style: usize,
+        step: Step,
+        answer: Answer,
+        /// Has a byte changed?
+        changes: bool,
+    },
     /// The next store held of the struct.
     Held { next_store: u32, is_longest: bool },
 }
@@ -74,6 +82,7 @@ pub fn step_any_bytes(
     while made < calls {
         made += subject.turn();
         subject.check_next_store(false);
+        subject.check_a_slot();
     }
     subject.check_next_store(is_long);
     made
@@ -215,6 +224,8 @@ impl Subject<'_> {
             3 if bits % 4 == 1 => vec![Step::Open {
                 range: self.random.pick(&[0, 1, 2, 3, 4, bits]),
             }],
+            4 => vec![Step::Look { slot: bits % 36 }],
+            5 => vec![Step::Clear { slot: bits % 36 }],
             _ => {
                 let own = Random::new(self.random.bits());
                 next_calls(own, &self.guide)
@@ -241,9 +252,36 @@ impl Subject<'_> {
             "{}: refused, but the bytes have changed",
             name()
         );
+        assert!(
+            answer.number != 0 || changes_what_it_may(step, &before, &self.board),
+            "{}: it may not leave {:?}",
+            name(),
+            self.board
+        );
         assert!(self.board.line() <= 1, "{}: then the line", name());
-        let style = self.style;
-        self.coverage.note(&Moment::Made { style, answer });
+        self.coverage.note(&Moment::Made {
+            style: self.style,
+            step: *step,
+            answer,
+            changes: self.board != before,
+        });
+    }
+
+    /// A look shows what the registers show, and reads are a look and then a clear.
+    fn check_a_slot(&mut self) {
+        let slot = self.random.below(32);
+        let mut copy = self.board;
+        let value = answer_of(copy.look(slot)).value;
+        let mut word = |offset| answer_of(copy.read(16, offset + slot / 16 * 4)).value;
+        let (new, missed) = (word(0x14) >> (slot % 16) & 1, word(0x1C) >> (slot % 16) & 1);
+        assert_eq!(
+            (value >> 16 & 1, value >> 17),
+            (new, missed),
+            "{}: look {slot} (left) and New and Missed Data of {:?}",
+            self.name,
+            self.board
+        );
+        check_reads(&self.board, slot as u8, SteppedBoard::answer, &self.name);
     }
 
     /// The next store is true: an advance of fewer ticks makes none, one of exactly that many makes
@@ -299,18 +337,19 @@ fn shortened(step: Step) -> Step {
     }
 }
 
-/// Can a board of any contents answer so? Numbers 1 to 5 and 11 to 14 come from the arguments alone,
+/// Can a board of any contents answer so? Numbers 1 to 5, 11 to 14 and 22 come from the arguments alone,
 /// so a good board gives the same; 6 to 10 come from the contents, and only writes have them.
 fn may_be_answered(step: &Step, of_good_board: u64, answer: Answer) -> bool {
     let number = answer.number;
     let may_be_number = match of_good_board {
-        1..=5 | 11..=14 => number == of_good_board,
+        1..=5 | 11..=14 | 22 => number == of_good_board,
         _ => number == 0 || may_be_refused(step, number),
     };
     let greatest = match *step {
         _ if number != 0 => 0,
         Step::Read { width, .. } => (1 << width) - 1,
         Step::Advance { ticks } => ticks.into(),
+        Step::Look { .. } => 0x3_FFFF,
         _ => 0,
     };
     may_be_number && answer.value <= greatest
@@ -350,7 +389,7 @@ fn kinds_of_styles() -> Vec<Kind<Moment>> {
 }
 
 fn kinds_of_numbers() -> impl Iterator<Item = Kind<Moment>> {
-    (0..=14).map(|number| {
+    (0..=14).chain([22]).map(|number| {
         kind(
             format!("number {number}"),
             500,
@@ -396,11 +435,45 @@ fn kinds_of_stores() -> Vec<Kind<Moment>> {
     ]
 }
 
+/// Looks that show a bit or none, clears that change a byte or none: accepted all of them.
+fn kinds_of_looks() -> Vec<Kind<Moment>> {
+    let look = |name: &str, shows: bool| {
+        kind(name, 1_000, move |moment: &Moment| match moment {
+            Moment::Made { step, answer, .. } => {
+                let is_look = matches!(step, Step::Look { .. }) && answer.number == 0;
+                is_look && (answer.value > 0xFFFF) == shows
+            }
+            _ => false,
+        })
+    };
+    let clear = |name: &str, is_change: bool| {
+        kind(name, 1_000, move |moment: &Moment| match moment {
+            Moment::Made {
+                step,
+                answer,
+                changes,
+                ..
+            } => {
+                let is_clear = matches!(step, Step::Clear { .. }) && answer.number == 0;
+                is_clear && *changes == is_change
+            }
+            _ => false,
+        })
+    };
+    vec![
+        look("look that shows a bit", true),
+        look("look that shows none", false),
+        clear("clear that changes a byte", true),
+        clear("clear that changes none", false),
+    ]
+}
+
 /// Each with the least count for the test's structs.
 pub fn all_kinds() -> Vec<Kind<Moment>> {
     kinds_of_styles()
         .into_iter()
         .chain(kinds_of_numbers())
+        .chain(kinds_of_looks())
         .chain(kinds_of_stores())
         .collect()
 }

@@ -1,4 +1,5 @@
-//! The board: questions 1 to 14, the schedule and the mailboxes, from the sections of 01.
+//! The board: questions 1 to 14, the schedule and the mailboxes, from the sections of 01; looks and
+//! clears with question 22, from 02 (A2).
 //!
 //! Time is absolute here. The board knows its tick and the tick at which its cycle's next store or
 //! beginning is due. An advance goes from event to event, and over whole repeats of the scan once
@@ -152,6 +153,8 @@ impl Board {
             Call::Advance { ticks } => self.advance(ticks),
             Call::Trigger => self.trigger(),
             Call::Reset => self.reset(),
+            Call::Look { slot } => self.look(slot.into()),
+            Call::Clear { slot } => self.clear(slot.into()),
         }
     }
 
@@ -161,8 +164,7 @@ impl Board {
                 let word = self.word(register);
                 // "A mailbox read of any width clears that slot's New and Missed bits."
                 if let Register::Mailbox(slot) = register {
-                    self.data.new &= !(1 << slot);
-                    self.data.missed &= !(1 << slot);
+                    self.data.drop_bits(slot);
                 }
                 accepted(covered(word, width, offset).into())
             }
@@ -222,6 +224,25 @@ impl Board {
         accepted(0)
     }
 
+    /// 02, A2: "gives code, New and Missed and changes nothing", whether a cycle runs or not.
+    pub fn look(&self, slot: u32) -> Answer {
+        match slot_of(slot) {
+            Ok(slot) => accepted(self.data.look(slot).into()),
+            Err(number) => refused(number),
+        }
+    }
+
+    /// 02, A2: "drops both bits", whether a cycle runs or not.
+    pub fn clear(&mut self, slot: u32) -> Answer {
+        match slot_of(slot) {
+            Ok(slot) => {
+                self.data.drop_bits(slot);
+                accepted(0)
+            }
+            Err(number) => refused(number),
+        }
+    }
+
     /// "The request line is enable and pending."
     pub fn request_line(&self) -> bool {
         self.registers.enable && self.data.pending
@@ -242,6 +263,27 @@ impl Board {
         };
         let ticks = cycle.start + after_start + CONVERSION - self.tick;
         u32::try_from(ticks).expect("I is at most 255 * 65,535")
+    }
+}
+
+// Mailboxes: what a look gives, and what reads and clears drop.
+
+/// 22. Is the slot of a look or a clear at most 31?
+fn slot_of(slot: u32) -> Result<usize, u64> {
+    ask(22, slot <= 31)?;
+    Ok(slot as usize)
+}
+
+impl Data {
+    /// "The code, plus 65536 if New, plus 131072 if Missed."
+    fn look(&self, slot: usize) -> u32 {
+        let (new, missed) = (self.new >> slot & 1, self.missed >> slot & 1);
+        u32::from(self.mailboxes[slot]) + 65_536 * new + 131_072 * missed
+    }
+
+    fn drop_bits(&mut self, slot: usize) {
+        self.new &= !(1 << slot);
+        self.missed &= !(1 << slot);
     }
 }
 
@@ -583,6 +625,11 @@ impl Board {
 
     pub fn is_pending(&self) -> bool {
         self.data.pending
+    }
+
+    /// The New bits, slot 0 in bit 0.
+    pub fn new_bits(&self) -> u32 {
+        self.data.new
     }
 
     /// The Missed bits, slot 0 in bit 0.

@@ -12,6 +12,8 @@ pub enum Call {
     Advance { ticks: u32 },
     Trigger,
     Reset,
+    Look { slot: u8 },
+    Clear { slot: u8 },
 }
 
 impl fmt::Display for Call {
@@ -32,6 +34,8 @@ pub enum Step {
     Advance { ticks: u32 },
     Trigger,
     Reset,
+    Look { slot: u32 },
+    Clear { slot: u32 },
 }
 
 impl Step {
@@ -60,6 +64,8 @@ impl Step {
             Call::Advance { ticks } => Step::Advance { ticks },
             Call::Trigger => Step::Trigger,
             Call::Reset => Step::Reset,
+            Call::Look { slot } => Step::Look { slot: slot.into() },
+            Call::Clear { slot } => Step::Clear { slot: slot.into() },
         }
     }
 }
@@ -81,6 +87,8 @@ impl fmt::Display for Step {
             Step::Advance { ticks } => write!(out, "advance {ticks}"),
             Step::Trigger => write!(out, "trigger"),
             Step::Reset => write!(out, "reset"),
+            Step::Look { slot } => write!(out, "look {slot}"),
+            Step::Clear { slot } => write!(out, "clear {slot}"),
         }
     }
 }

@@ -1,5 +1,5 @@
-//! Cases typed in from 01 and from MANUALS.md, as lists of calls with the answers expected. That a
-//! board is idle is seen by a write to 0CH: a busy one refuses it with 6.
+//! Cases typed in from 01, from 02 (A2) and from MANUALS.md, as lists of calls with the answers expected.
+//! That a board is idle is seen by a write to 0CH: a busy one refuses it with 6.
 
 use crate::script::{steps, Step};
 
@@ -34,6 +34,7 @@ pub fn all() -> impl Iterator<Item = &'static Case> {
         OPEN_POINTS,
         QUESTIONS,
         SCHEDULE,
+        LOOKS,
     ];
     groups.into_iter().flatten()
 }
@@ -770,7 +771,156 @@ pub const SCHEDULE: &[Case] = &[
     ),
 ];
 
+/// 02, A2: a look's value "is the code, plus 65536 if New, plus 131072 if Missed", so that 18000H is a
+/// code of 8000H with New, and 38000H the same with Missed too. Code 8000H is 0 uV in range 1, C000H
+/// 5,000,000 uV. With 0309H, channel 0 alone, stores come at 64, 184, 304 and so on, as in 01's bench
+/// case 0301H, 0000H; single ended, all of them go to slot 0.
+pub const LOOKS: &[Case] = &[
+    case(
+        "looks before, between and after two stores",
+        1,
+        "
+        write 16 04H 0309H; write 16 24H 1
+        look 0 = 0                        # 01: a new board's codes and bits are 0
+        input 0 5,000,000                 # it counts for beginnings after this call: not for the first
+        advance 63; look 0 = 0
+        advance 1 = 1; look 0 = 18000H    # the store sets New
+        advance 119; look 0 = 18000H
+        advance 1 = 1; look 0 = 3C000H    # New was set already: Missed too
+        advance 120 = 1; look 0 = 3C000H  # Missed is set once
+        ",
+    ),
+    case(
+        "a look changes nothing",
+        1,
+        "
+        write 16 04H 0309H; write 16 24H 1; advance 64 = 1
+        look 0 = 18000H; look 0 = 18000H; read 16 14H = 1; read 16 1CH = 0
+        advance 120 = 1; look 0 = 38000H; look 0 = 38000H; read 16 14H = 1; read 16 1CH = 1
+        read 16 80H = 8000H               # the driver's read takes what the look left
+        look 0 = 8000H; read 16 14H = 0; read 16 1CH = 0
+        ",
+    ),
+    case(
+        "a clear between two stores prevents Missed",
+        1,
+        "
+        write 16 04H 0309H; write 16 24H 1; advance 64 = 1; clear 0; look 0 = 8000H
+        read 16 14H = 0; read 16 1CH = 0  # the code stays, the bit is dropped
+        advance 120 = 1; look 0 = 18000H; read 16 14H = 1; read 16 1CH = 0
+        advance 120 = 1; look 0 = 38000H  # no clear since the last store
+        clear 0; look 0 = 8000H; read 16 14H = 0; read 16 1CH = 0   # both bits are dropped
+        advance 120 = 1; look 0 = 18000H
+        advance 240 = 2; look 0 = 38000H  # two stores with nothing between them
+        ",
+    ),
+    case(
+        "a clear of a clean slot is accepted",
+        1,
+        "
+        clear 0; clear 31; look 0 = 0; look 31 = 0
+        write 16 04H 0309H; write 16 24H 1; clear 0; advance 64 = 1; look 0 = 18000H
+        clear 0; clear 0; look 0 = 8000H; read 16 80H = 8000H; clear 0; look 0 = 8000H
+        advance 120 = 1; look 0 = 18000H
+        ",
+    ),
+    case(
+        "22: a slot above 31",
+        1,
+        "
+        look 31 = 0; clear 31; look 32 refused 22; clear 32 refused 22
+        look 255 refused 22; clear 255 refused 22; look 128 refused 22; clear 64 refused 22
+        write 16 04H 0409H; write 16 10H 1F00H; write 16 24H 1   # 32 channels: 31 x 120 + 64 = 3784
+        look 32 refused 22; clear 32 refused 22; advance 3784 = 32
+        clear 32 refused 22; clear 255 refused 22; clear 160 refused 22
+        look 0 = 18000H; look 31 = 18000H; read 16 14H to 18H = FFFFH   # no slot was cleared
+        clear 31; look 31 = 8000H; look 30 = 18000H; read 16 18H = 7FFFH
+        ",
+    ),
+    case(
+        "while a cycle runs: both are accepted, and the cycle goes on",
+        1,
+        "
+        write 16 04H 0909H; write 8 09H 64; write 16 0CH 1; write 16 24H 1   # stores at 128, 192, ..
+        look 0 = 0; clear 0; write 16 0CH 1 refused 6
+        advance 127; look 0 = 0; advance 1 = 1; look 0 = 18000H; clear 0; look 0 = 8000H
+        write 16 0CH 1 refused 6; advance 63; advance 1 = 1; look 0 = 18000H
+        advance 64 = 1; look 0 = 38000H
+        ",
+    ),
+    case(
+        "while armed: both are accepted, and triggers go on",
+        1,
+        "
+        write 16 04H 050BH; write 16 24H 1; look 0 = 0; clear 0; write 16 0CH 1 refused 6
+        trigger; look 0 = 0               # it takes a code and stores none
+        advance 64; trigger; look 0 = 18000H; clear 0; look 0 = 8000H
+        advance 63; look 0 = 8000H; trigger; look 0 = 8000H   # ignored: 63 ticks after the last
+        advance 1; trigger; look 0 = 18000H; advance 64; trigger; look 0 = 38000H
+        write 16 0CH 1 refused 6
+        ",
+    ),
+    case(
+        "the code is seen as it was stored, in both formats",
+        1,
+        "
+        input 0 -1                        # 01's bench case: 7FFFH, FFFFH in two's complement
+        write 16 04H 0409H; write 16 24H 1; advance 64 = 1; look 0 = 17FFFH
+        write 16 04H 0408H; look 0 = 17FFFH; write 16 24H 1; look 0 = 7FFFH   # a start drops the bits
+        advance 64 = 1; look 0 = 1FFFFH; write 16 04H 0409H; look 0 = 1FFFFH
+        input 0 10,000,000; write 16 04H 0309H; write 16 24H 1; advance 184 = 2
+        look 0 = 3FFFFH                   # the greatest value
+        ",
+    ),
+    case(
+        "a slot's look and clear concern no other slot",
+        1,
+        "
+        write 16 04H 0301H; write 16 24H 1; advance 304 = 3   # slots 0, 16 and 0 again
+        look 0 = 38000H; look 16 = 18000H; look 1 = 0; look 15 = 0; look 17 = 0; look 31 = 0
+        clear 16; look 16 = 8000H; look 0 = 38000H
+        read 16 14H = 1; read 16 18H = 0; read 16 1CH = 1; read 16 20H = 0
+        clear 1; clear 17; look 0 = 38000H; clear 0; look 0 = 8000H
+        read 16 14H to 20H = 0; advance 120 = 1; look 16 = 18000H; look 0 = 8000H
+        ",
+    ),
+    case(
+        "a read of each width leaves what look and clear leave",
+        1,
+        "
+        input 0 1,234,567; write 16 04H 0309H; write 16 24H 1   # the code 8FCDH, as above
+        advance 184 = 2; look 0 = 38FCDH; read 8 80H = CDH; look 0 = 8FCDH
+        advance 240 = 2; look 0 = 38FCDH; read 8 81H = 8FH; look 0 = 8FCDH
+        advance 240 = 2; look 0 = 38FCDH; read 16 80H = 8FCDH; look 0 = 8FCDH
+        advance 240 = 2; look 0 = 38FCDH; read 32 80H = 00008FCDH; look 0 = 8FCDH
+        advance 240 = 2; look 0 = 38FCDH; clear 0; look 0 = 8FCDH; read 16 14H = 0; read 16 1CH = 0
+        advance 240 = 2; look 0 = 38FCDH; read 16 82H refused 3; look 0 = 38FCDH   # no read
+        ",
+    ),
+    case(
+        "a stop leaves what a look shows, a start drops the bits, a reset the code too",
+        1,
+        "
+        write 16 04H 0309H; write 16 24H 1; advance 184 = 2; write 16 04H 0009H; look 0 = 38000H
+        write 16 04H 0409H; look 0 = 38000H; write 16 24H 1; look 0 = 8000H
+        advance 64 = 1; look 0 = 18000H; reset; look 0 = 0
+        ",
+    ),
+    case(
+        "a clear is a read of its slot and no release",
+        1,
+        "
+        write 16 00H 1; write 16 04H 1309H; write 16 24H 1; advance 64 = 1; read 16 00H = 3
+        look 0 = 18000H; read 16 00H = 3; clear 0; read 16 00H = 3; write 16 00H 8001H
+        read 16 00H = 1; advance 120 = 1; read 16 00H = 3
+        ",
+    ),
+];
+
 const TRIGGER: &[u8] = &[0x05, 0, 0];
+
+const LOOK_31: &[u8] = &[0x07, 1, 0, 31];
+const CLEAR_31: &[u8] = &[0x08, 1, 0, 31];
 
 /// A good heading.
 const HEAD: &[u8] = &[0x00, 5, 0, b'A', b'3', b'3', b'0', 3];
@@ -795,7 +945,17 @@ pub const TRACES: &[(&[&[u8]], usize, u64)] = &[
     (&[HEAD, HEAD], 100, 19),
     (&[HEAD, &[0x05]], 100, 19),
     (&[HEAD, &[0x05, 0]], 100, 19),
-    (&[HEAD, TRIGGER, &[0x07, 0, 0]], 0, 19),
+    (&[HEAD, TRIGGER, &[0x09, 0, 0]], 0, 19),
+    (&[HEAD, &[0x09, 1, 0, 0]], 100, 19),
+    (&[HEAD, &[0x87, 1, 0, 0]], 100, 19),
+    (&[HEAD, &[0x07, 0, 0]], 100, 19),
+    (&[HEAD, &[0x08, 0, 0]], 100, 19),
+    (&[HEAD, &[0x07, 1, 0]], 100, 19),
+    (&[HEAD, &[0x08, 1, 0]], 100, 19),
+    (&[HEAD, &[0x07, 2, 0, 0, 0]], 100, 19),
+    (&[HEAD, &[0x08, 2, 0, 0, 0]], 100, 19),
+    (&[HEAD, &[0x07, 1, 1, 0]], 100, 19),
+    (&[HEAD, &[0x08, 4, 0, 0, 0, 0, 0]], 100, 19),
     (&[HEAD, &[0x05, 1, 0, 0]], 100, 19),
     (&[HEAD, &[0x06, 0, 1]], 100, 19),
     (&[HEAD, &[0x04, 4, 0, 1, 0, 0]], 100, 19),
@@ -805,4 +965,9 @@ pub const TRACES: &[(&[&[u8]], usize, u64)] = &[
     (&[HEAD, TRIGGER], 5, 256),
     (&[HEAD, TRIGGER, TRIGGER], 9, 20),
     (&[HEAD, TRIGGER, TRIGGER], 11, 512),
+    (&[HEAD, LOOK_31], 4, 20),
+    (&[HEAD, LOOK_31], 5, 256),
+    (&[HEAD, CLEAR_31], 4, 20),
+    (&[HEAD, CLEAR_31], 6, 256),
+    (&[HEAD, CLEAR_31, LOOK_31, LOOK_31], 15, 768),
 ];

@@ -45,6 +45,7 @@ pub fn marathon(random: Random, range: u32) -> Vec<Call> {
             0 => maker.read_a_mailbox(),
             1 => maker.set_input(),
             2 | 3 => maker.push(Call::Trigger),
+            4 => maker.look_or_clear(),
             _ => (),
         }
     }
@@ -174,6 +175,14 @@ impl Maker {
             offset,
             value,
         });
+    }
+
+    fn look(&mut self, slot: u8) {
+        self.push(Call::Look { slot });
+    }
+
+    fn clear(&mut self, slot: u8) {
+        self.push(Call::Clear { slot });
     }
 
     /// A word written as one of 16 bits, as one of 32 with anything above, or as two bytes.
@@ -370,7 +379,7 @@ impl Maker {
 impl Maker {
     fn step(&mut self) {
         let is_armed = !self.board.is_idle() && self.scan() == TRIGGER_ONLY;
-        match self.random.below(100) {
+        match self.random.below(112) {
             0..=19 if is_armed => self.push(Call::Trigger),
             20..=34 if is_armed => self.volley(),
             0..=39 => self.advance(),
@@ -383,6 +392,8 @@ impl Maker {
             72..=75 => self.push(Call::Trigger),
             76..=80 => self.use_interrupt(),
             81..=87 => self.touch_a_register(),
+            88..=97 => self.look_or_clear(),
+            98 | 99 => self.look_between_stores(),
             _ => self.refused_call(),
         }
     }
@@ -426,7 +437,7 @@ impl Maker {
     }
 
     /// Of a channel of the scan, mostly, in either half.
-    fn read_a_mailbox(&mut self) {
+    fn any_slot(&mut self) -> u8 {
         let registers = self.board.registers();
         let (start, end) = (registers.start, registers.end);
         let slot = if start <= end && !self.random.one_in(5) {
@@ -435,7 +446,53 @@ impl Maker {
         } else {
             self.random.below(32)
         };
-        self.read_word(0x80 + 4 * slot as u16);
+        slot as u8
+    }
+
+    fn read_a_mailbox(&mut self) {
+        let slot = self.any_slot();
+        self.read_word(0x80 + 4 * u16::from(slot));
+    }
+
+    fn look_or_clear(&mut self) {
+        let slot = match self.random.below(12) {
+            0 => 31,
+            _ => self.any_slot(),
+        };
+        self.look_or_clear_at(slot);
+    }
+
+    /// A look, a clear, or a look and then a clear.
+    fn look_or_clear_at(&mut self, slot: u8) {
+        let choice = self.random.below(5);
+        if choice != 2 {
+            self.look(slot);
+        }
+        if choice >= 2 {
+            self.clear(slot);
+        }
+    }
+
+    /// To the next store that comes by itself, if there is one, then to the next one in the same slot,
+    /// and a look after it. In between comes a look, a clear, or both.
+    fn look_between_stores(&mut self) {
+        let next = self.board.next_store();
+        if next == 0 {
+            return self.look_or_clear();
+        }
+        self.advance_by(next.min(self.longest));
+        let registers = self.board.registers();
+        let (Some(cycle), Some(pass)) = (self.board.cycle(), pass_length(registers)) else {
+            return;
+        };
+        let Some(last) = cycle.stored.checked_sub(1) else {
+            return;
+        };
+        let slot = registers.slot_of(last) as u8;
+        let passes = 1 + u64::from(registers.control.is_differential());
+        self.look_or_clear_at(slot);
+        self.advance_by((passes * pass).min(self.longest.into()) as u32);
+        self.look(slot);
     }
 
     fn set_input(&mut self) {
@@ -507,10 +564,13 @@ impl Maker {
     }
 
     /// Every register and mailbox, so that nothing a trace left behind goes unseen. Mailboxes come
-    /// last: their reads clear bits.
+    /// last: their reads clear bits. Sometimes they are looked at before.
     fn read_out(&mut self) {
         for offset in WRITTEN.into_iter().chain(STATUS) {
             self.read(16, offset);
+        }
+        if self.random.one_in(4) {
+            (0..32).for_each(|slot| self.look(slot));
         }
         for slot in 0..32 {
             self.read(16, 0x80 + 4 * slot);
@@ -536,7 +596,7 @@ pub fn pass_length(registers: &Registers) -> Option<u64> {
 
 impl Maker {
     fn refused_call(&mut self) {
-        match self.random.below(14) {
+        match self.random.below(16) {
             0 => self.wrong_width(),
             1 => self.wrong_offset(),
             2 => self.too_great_a_value(),
@@ -549,6 +609,7 @@ impl Maker {
                 let beyond = self.random.pick(&[16_777_217, u32::MAX, 1 << 31]);
                 self.advance_by(beyond);
             }
+            11 | 12 => self.wrong_slot(),
             _ => self.anything(),
         }
     }
@@ -657,6 +718,12 @@ impl Maker {
         });
     }
 
+    fn wrong_slot(&mut self) {
+        let far = self.random.between(32, 255) as u8;
+        let slot = self.random.pick(&[32, 32, 33, 64, 127, 128, 255, 255, far]);
+        self.look_or_clear_at(slot);
+    }
+
     /// Whatever fits in a trace.
     fn anything(&mut self) {
         let bits = self.random.bits();
@@ -664,10 +731,11 @@ impl Maker {
         let offset = self
             .random
             .pick(&[bits as u16, bits as u16 % 256, bits as u16 % 64 * 4]);
-        match self.random.below(3) {
+        match self.random.below(4) {
             0 => self.read(width, offset),
             1 => self.write(width, offset, (bits >> 16) as u32 % 256),
-            _ => self.write(width, offset, (bits >> 16) as u32),
+            2 => self.write(width, offset, (bits >> 16) as u32),
+            _ => self.look_or_clear_at(bits as u8),
         }
     }
 }

@@ -21,6 +21,10 @@ uint64_t header_trigger(pmc330_board *board) { return pmc330_trigger(board); }
 
 uint64_t header_reset(pmc330_board *board) { return pmc330_reset(board); }
 
+uint64_t header_look(const pmc330_board *board, uint32_t slot) { return pmc330_look(board, slot); }
+
+uint64_t header_clear(pmc330_board *board, uint32_t slot) { return pmc330_clear(board, slot); }
+
 uint32_t header_line(const pmc330_board *board) { return pmc330_line(board); }
 
 uint32_t header_next_store(const pmc330_board *board) { return pmc330_next_store(board); }

@@ -15,6 +15,7 @@ pub mod coverage;
 pub mod fraction;
 pub mod generator;
 pub mod logbook;
+pub mod looks;
 pub mod made_up;
 pub mod moments;
 pub mod one_kind;

@@ -10,7 +10,7 @@ use crate::call::Call;
 #[derive(Clone, Copy, Debug, PartialEq, Eq)]
 pub enum Event {
     Reset,
-    /// A mailbox read.
+    /// A mailbox read, or a clear (02, A2).
     Read {
         slot: usize,
     },
@@ -24,13 +24,13 @@ pub enum Event {
 }
 
 /// "The running cycle, if any, with its T and the ticks of the triggers taken in it."
-#[derive(Clone, Debug)]
+#[derive(Clone, Debug, PartialEq, Eq)]
 pub struct Cycle {
     start: u64,
     triggers: Vec<u64>,
 }
 
-#[derive(Clone, Debug)]
+#[derive(Clone, Debug, PartialEq, Eq)]
 pub struct Logbook {
     range: u32,
     memory: [u8; 256],
@@ -96,6 +96,8 @@ impl Logbook {
             Call::Advance { ticks } => self.advance(ticks),
             Call::Trigger => self.trigger(),
             Call::Reset => self.reset(),
+            Call::Look { slot } => self.look(slot.into()),
+            Call::Clear { slot } => self.clear(slot.into()),
         }
     }
 
@@ -112,6 +114,28 @@ impl Logbook {
             self.inputs[channel] = microvolts;
             answer(0, 0)
         }
+    }
+
+    /// No event: what it gives is found from those that there are.
+    fn look(&self, slot: usize) -> Answer {
+        if slot >= 32 {
+            return answer(22, 0);
+        }
+        let bits = match self.stores_in(slot) {
+            0 => 0x00000,
+            1 => 0x10000,
+            _ => 0x30000,
+        };
+        answer(0, u64::from(bits | self.mailbox(slot)))
+    }
+
+    /// 02, A2: "a clear counts as a read of that slot".
+    fn clear(&mut self, slot: usize) -> Answer {
+        if slot >= 32 {
+            return answer(22, 0);
+        }
+        self.events.push(Event::Read { slot });
+        answer(0, 0)
     }
 
     /// "It opens anew, keeping range, inputs and earlier events."

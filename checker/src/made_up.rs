@@ -85,7 +85,7 @@ fn damaged(random: &mut Random, trace: &mut Vec<u8>) -> &'static str {
         }
         7 => {
             let count = 1 + random.below(8);
-            trace.extend((0..count).map(|_| random.below(8) as u8));
+            trace.extend((0..count).map(|_| random.below(10) as u8));
             "trailing bytes"
         }
         _ => {
@@ -99,7 +99,7 @@ fn damaged(random: &mut Random, trace: &mut Vec<u8>) -> &'static str {
 fn damaged_heading(random: &mut Random, trace: &mut Vec<u8>) -> &'static str {
     match random.below(6) {
         0 => {
-            trace[0] = random.pick(&[1, 5, 6, 255]);
+            trace[0] = random.pick(&[1, 5, 6, 7, 8, 255]);
             "heading with a wrong tag"
         }
         1 => {
@@ -132,28 +132,45 @@ fn damaged_field(random: &mut Random, trace: &mut [u8]) -> &'static str {
         return "no damage";
     }
     let start = random.pick(&starts);
-    match random.below(5) {
+    match random.below(7) {
         0 => {
             trace[start] = 0;
             "second heading's tag"
         }
         1 => {
-            trace[start] = random.pick(&[7, 8, 0x81, 255]);
+            trace[start] = random.pick(&[10, 0x81, 0x87, 255]);
             "field with no call's tag"
         }
         2 => {
-            trace[start] = 1 + random.below(6) as u8;
-            "field with another call's tag"
+            // The first that is no call's.
+            trace[start] = 9;
+            "field with tag 09H"
         }
         3 => {
+            trace[start] = 1 + random.below(8) as u8;
+            "field with another call's tag"
+        }
+        4 => {
             trace[start + 1] = random.below(9) as u8;
             "field with another length"
         }
+        5 => long_or_short_look(random, trace, &starts),
         _ => {
             trace[start + 2] = random.pick(&[1, 255]);
             "field with a far greater length"
         }
     }
+}
+
+/// A look or a clear that has not its one byte, if there is any.
+fn long_or_short_look(random: &mut Random, trace: &mut [u8], starts: &[usize]) -> &'static str {
+    let is_look = |start: &usize| matches!(trace[*start], 0x07 | 0x08);
+    let looks: Vec<usize> = starts.iter().copied().filter(is_look).collect();
+    if looks.is_empty() {
+        return "no damage";
+    }
+    trace[random.pick(&looks) + 1] = random.pick(&[0, 2, 3, 4]);
+    "look or clear with another length"
 }
 
 /// Where the fields after the heading start.

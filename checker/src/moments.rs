@@ -3,9 +3,10 @@
 
 use crate::analog::Answer;
 use crate::board::{Board, Cycle, LONGEST_ADVANCE};
-use crate::call::Call;
+use crate::call::{Call, Step};
 use crate::coverage::{kind, Kind};
 use crate::generator::{pass_length, MARKED_ADVANCES};
+use crate::looks::{self, stored_in, Noted, Slots};
 use crate::registers::{
     Control, Register, Registers, BURST_CONTINUOUS, BURST_SINGLE, EACH_STORE, LAST_STORE_OF_A_PASS,
     TRIGGER_INPUT, TRIGGER_ONLY, UNIFORM_CONTINUOUS, UNIFORM_SINGLE,
@@ -19,17 +20,20 @@ pub struct Moment {
     pub answer: Answer,
     pub before: Board,
     pub after: Board,
+    noted: Noted,
 }
 
-/// Plays a call on the board.
-pub fn played(board: &mut Board, call: &Call) -> Moment {
+/// Plays a call on the board, whose slots were looked at and cleared so.
+pub fn played(board: &mut Board, slots: &mut Slots, call: &Call) -> Moment {
     let before = board.clone();
     let answer = board.call(call);
+    let noted = slots.note(Step::of(call), answer, &before, board);
     Moment {
         call: *call,
         answer,
         before,
         after: board.clone(),
+        noted,
     }
 }
 
@@ -83,15 +87,12 @@ impl Moment {
 
     /// The conversions stored in the call: k of the first, and of the first not stored.
     pub fn stored(&self) -> Range<u64> {
-        let Some(cycle) = self.cycle() else {
-            return 0..0;
-        };
-        let count = match (self.call, self.after.cycle()) {
-            (Call::Advance { .. }, _) => self.answer.value,
-            (Call::Trigger, Some(after)) => after.stored - cycle.stored,
-            _ => 0,
-        };
-        cycle.stored..cycle.stored + count
+        stored_in(
+            &Step::of(&self.call),
+            self.answer,
+            &self.before,
+            &self.after,
+        )
     }
 
     fn stores(&self) -> bool {
@@ -167,6 +168,7 @@ pub fn all_kinds() -> Vec<Kind<Moment>> {
     kinds.extend(advance_kinds());
     kinds.extend(trigger_kinds());
     kinds.extend(ending_kinds());
+    kinds.extend(look_kinds(100));
     kinds
 }
 
@@ -183,6 +185,8 @@ fn call_kinds() -> Vec<Kind<Moment>> {
         of("advance", |call| matches!(call, Call::Advance { .. })),
         of("trigger", |call| *call == Call::Trigger),
         of("reset", |call| *call == Call::Reset),
+        of("look", |call| matches!(call, Call::Look { .. })),
+        of("clear", |call| matches!(call, Call::Clear { .. })),
     ]
 }
 
@@ -193,7 +197,7 @@ fn number_kinds() -> Vec<Kind<Moment>> {
             moment.answer.number == number
         })
     };
-    (0..=13).map(of).collect()
+    (0..=13).chain([22]).map(of).collect()
 }
 
 /// Starts on both sides of questions 9 and 10.
@@ -439,6 +443,11 @@ fn ending_kinds() -> Vec<Kind<Moment>> {
             },
         ),
     ]
+}
+
+/// Looks and clears, and what came after them, with this least count.
+pub fn look_kinds(least: u64) -> Vec<Kind<Moment>> {
+    looks::kinds(least, |moment: &Moment| Some(&moment.noted)).collect()
 }
 
 // Reads and writes of every register, by width.

@@ -78,10 +78,20 @@ pub fn kinds() -> Vec<Kind> {
     // A trigger is taken only 64 ticks after the last one: an advance comes with it.
     let advance_and_trigger = |_| vec![Call::Advance { ticks: 64 }, Call::Trigger];
     let mailbox = |round| vec![read_16(0x80 + 4 * (round % 32) as u16)];
+    let look = |round| {
+        let slot = (round % 32) as u8;
+        vec![Call::Look { slot }]
+    };
+    let clear = |round| {
+        let slot = (round % 32) as u8;
+        vec![Call::Clear { slot }]
+    };
     let triggers = || started(0x0D0B);
     vec![
         alone("read of Control", (0, 0), |_| vec![read_16(0x04)]),
         alone("read of a mailbox", (0, 0), mailbox),
+        alone("look", (0, 0), look),
+        alone("clear", (0, 0), clear),
         alone("write of Timer", (0, 0), |round| {
             vec![write_16(0x0C, round as u32 % 65_536)]
         }),

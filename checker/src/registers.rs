@@ -192,6 +192,13 @@ impl Registers {
         u64::from(self.end - self.start + 1)
     }
 
+    /// The slot of conversion k: "the channel, plus 16 if differential and the pass is odd".
+    pub fn slot_of(&self, k: u64) -> u64 {
+        let m = self.channels_in_a_pass();
+        let is_in_second_half = self.control.is_differential() && k / m % 2 == 1;
+        u64::from(self.start) + k % m + if is_in_second_half { 16 } else { 0 }
+    }
+
     /// "D is I in burst continuous with the timer enabled, else 0."
     pub fn delay(&self) -> u64 {
         if self.control.has_delay() {

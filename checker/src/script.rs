@@ -5,6 +5,7 @@
 //! advance 64 = 1             # accepted, with value 1
 //! write 16 0CH 8 refused 6   # not accepted: number 6
 //! read 16 80H to 8CH = 8000H # four reads, of each fourth offset
+//! look 5 = 18000H            # 02, A2: slot 5 has the code 8000H, and New
 //! ```
 //!
 //! A call with nothing after it is accepted with value 0. A trailing H marks hexadecimal.
@@ -81,6 +82,8 @@ fn calls_of(words: &[&str]) -> Option<Vec<Call>> {
         },
         ["trigger"] => Call::Trigger,
         ["reset"] => Call::Reset,
+        ["look", slot] => Call::Look { slot: number(slot) },
+        ["clear", slot] => Call::Clear { slot: number(slot) },
         _ => return None,
     };
     Some(vec![call])
@@ -114,6 +117,7 @@ mod tests {
             read 16 80H to 88H = 8000H   # three
             input 3 -35,000,001 refused 12; trigger
             write 32 24H 00010000H
+            look 31 = 18000H; clear 255 refused 22
         ";
         let expected = [
             ("read 16 80H", 0, 0x8000),
@@ -122,6 +126,8 @@ mod tests {
             ("input 3 -35000001", 12, 0),
             ("trigger", 0, 0),
             ("write 32 24H 10000H", 0, 0),
+            ("look 31", 0, 0x1_8000),
+            ("clear 255", 22, 0),
         ];
         let steps = steps(script);
         assert_eq!(steps.len(), expected.len());

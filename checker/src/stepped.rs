@@ -28,6 +28,9 @@ extern "C" {
     fn header_advance(board: *mut SteppedBoard, ticks: u32) -> u64;
     fn header_trigger(board: *mut SteppedBoard) -> u64;
     fn header_reset(board: *mut SteppedBoard) -> u64;
+    // Const in C. Not here: of a const board the compiler may take it that nothing changes, and that is to be seen.
+    fn header_look(board: *mut SteppedBoard, slot: u32) -> u64;
+    fn header_clear(board: *mut SteppedBoard, slot: u32) -> u64;
     fn header_line(board: *const SteppedBoard) -> u32;
     fn header_next_store(board: *const SteppedBoard) -> u32;
     fn header_places(places: *mut usize);
@@ -93,6 +96,16 @@ impl SteppedBoard {
         unsafe { header_reset(self) }
     }
 
+    #[inline]
+    pub fn look(&mut self, slot: u32) -> u64 {
+        unsafe { header_look(self, slot) }
+    }
+
+    #[inline]
+    pub fn clear(&mut self, slot: u32) -> u64 {
+        unsafe { header_clear(self, slot) }
+    }
+
     /// The request line, 0 or 1.
     #[inline]
     pub fn line(&self) -> u32 {
@@ -122,7 +135,13 @@ impl SteppedBoard {
             Call::Advance { ticks } => self.advance(ticks),
             Call::Trigger => self.trigger(),
             Call::Reset => self.reset(),
+            Call::Look { slot } => self.look(slot.into()),
+            Call::Clear { slot } => self.clear(slot.into()),
         }
+    }
+
+    pub fn answer(&mut self, call: &Call) -> Answer {
+        answer_of(self.call(call))
     }
 }
 
@@ -132,7 +151,7 @@ pub fn answers_by_functions(range: u32, calls: &[Call]) -> Vec<u8> {
     let mut board = SteppedBoard::filled(0x5A);
     assert_eq!(board.open(range), 0, "a board has a range of 0 to 3");
     let bytes_of = |call| {
-        let Answer { number, value } = answer_of(board.call(call));
+        let Answer { number, value } = board.answer(call);
         let mut bytes = vec![u8::try_from(number).expect("a number")];
         bytes.extend(u32::try_from(value).expect("a value").to_le_bytes());
         bytes
@@ -158,6 +177,18 @@ impl SteppedBoard {
     }
 }
 
+/// Are no other bytes changed than an accepted call of this kind may change? None by a look, and by a
+/// clear the unread byte of its slot.
+pub fn changes_what_it_may(step: &Step, before: &SteppedBoard, after: &SteppedBoard) -> bool {
+    let mut allowed = *before;
+    match *step {
+        Step::Look { .. } => (),
+        Step::Clear { slot } => allowed.unread[slot as usize] = after.unread[slot as usize],
+        _ => return true,
+    }
+    allowed == *after
+}
+
 // The same call on either board.
 
 impl Step {
@@ -178,6 +209,8 @@ impl Step {
             Step::Advance { ticks } => board.advance(ticks),
             Step::Trigger => board.trigger(),
             Step::Reset => board.reset(),
+            Step::Look { slot } => board.look(slot),
+            Step::Clear { slot } => board.clear(slot),
         })
     }
 
@@ -198,6 +231,8 @@ impl Step {
             Step::Advance { ticks } => board.advance(ticks),
             Step::Trigger => board.trigger(),
             Step::Reset => board.reset(),
+            Step::Look { slot } => board.look(slot),
+            Step::Clear { slot } => board.clear(slot),
         }
     }
 }

@@ -1,15 +1,17 @@
 //! Boards that a simulator holds, stepped beside independent ones: four of each, with calls to them in
 //! any order, and boards that are saved, restored and swapped in between. After every call the answer, the
-//! request line, the next store and the bytes of a refusal are compared, and now and then every register.
+//! request line, the next store and the bytes of a refusal or a look are compared, and now and then every
+//! register and slot.
 
 use crate::analog::Answer;
 use crate::board::{Board, LONGEST_ADVANCE};
 use crate::call::Step;
 use crate::coverage::{kind, Coverage, Kind};
 use crate::generator::next_calls;
+use crate::looks::{self, check_reads, scan_of_cycle, Noted, Slots};
 use crate::random::Random;
 use crate::registers::TRIGGER_ONLY;
-use crate::stepped::SteppedBoard;
+use crate::stepped::{changes_what_it_may, SteppedBoard};
 
 /// Boards that are stepped in turn.
 const PLACES: usize = 4;
@@ -30,6 +32,7 @@ pub struct Made {
     /// The scan field of the cycle that ran before and after the call, if one did.
     cycle_before: Option<u32>,
     cycle_after: Option<u32>,
+    noted: Noted,
 }
 
 pub enum Moment {
@@ -40,6 +43,8 @@ pub enum Moment {
         is_other: bool,
     },
     Swapped,
+    /// Reads were compared with look and clear, of every slot.
+    Reads,
 }
 
 /// A board of the archive, and the independent one that it must answer as.
@@ -47,6 +52,7 @@ pub enum Moment {
 struct Pair {
     archive: SteppedBoard,
     independent: Board,
+    slots: Slots,
 }
 
 struct Boards<'a> {
@@ -57,6 +63,8 @@ struct Boards<'a> {
     /// Side by side in memory: a call that writes beside its own board hits another.
     archive: [SteppedBoard; PLACES],
     independent: [Board; PLACES],
+    /// How the slots of each were looked at and cleared.
+    slots: [Slots; PLACES],
     saved: Vec<Pair>,
     coverage: &'a mut Coverage<Moment>,
 }
@@ -70,6 +78,7 @@ pub fn step_a_list(seed: u64, list: u32, calls: u32, coverage: &mut Coverage<Mom
         calls: 0,
         archive: [SteppedBoard::filled(0xA5); PLACES],
         independent: std::array::from_fn(|_| Board::new(0).0),
+        slots: [Slots::default(); PLACES],
         saved: Vec::new(),
         coverage,
     };
@@ -102,19 +111,14 @@ fn seen_of_independent(board: &Board) -> Seen {
     }
 }
 
-/// The scan field of the cycle that runs, if one does.
-fn cycle_of(board: &Board) -> Option<u32> {
-    board.cycle().map(|_| board.registers().control.scan())
-}
-
 impl Boards<'_> {
     fn make(&mut self, place: usize, step: Step) {
         let archive_before = self.archive;
         let independent = &mut self.independent[place];
-        let (before, cycle_before) = (seen_of_independent(independent), cycle_of(independent));
+        let independent_before = independent.clone();
         let answer = step.on_archive(&mut self.archive[place]);
         let expected = step.on_independent(independent);
-        let (after, cycle_after) = (seen_of_independent(independent), cycle_of(independent));
+        let after = seen_of_independent(independent);
         self.calls += 1;
         let seen = seen_of_archive(&self.archive[place]);
         let name = || format!("{}, call {}, board {place}, {step}", self.name, self.calls);
@@ -125,37 +129,56 @@ impl Boards<'_> {
         );
         for (other, is_before) in archive_before.iter().enumerate() {
             let may_change = other == place && answer.number == 0;
+            let is_left = if may_change {
+                changes_what_it_may(&step, is_before, &self.archive[other])
+            } else {
+                self.archive[other] == *is_before
+            };
             assert!(
-                may_change || self.archive[other] == *is_before,
+                is_left,
                 "{}: number {}, but board {other} has changed",
                 name(),
                 answer.number
             );
         }
+        let independent = &self.independent[place];
+        let noted = self.slots[place].note(step, answer, &independent_before, independent);
         self.coverage.note(&Moment::Made(Made {
             step,
             answer,
-            before,
+            before: seen_of_independent(&independent_before),
             after,
-            cycle_before,
-            cycle_after,
+            cycle_before: scan_of_cycle(&independent_before),
+            cycle_after: scan_of_cycle(independent),
+            noted,
         }));
     }
 
-    /// Every register and mailbox, read from copies: neither board changes.
+    /// Every slot, register and mailbox, from copies: neither board changes. Mailboxes are read last.
     fn compare_all(&self, place: usize) {
         let mut archive = self.archive[place];
         let mut independent = self.independent[place].clone();
-        for offset in (0..256).step_by(4) {
-            let read = Step::Read { width: 16, offset };
+        let looks = (0..32).map(|slot| Step::Look { slot });
+        let offsets = (0..256).step_by(4);
+        let reads = offsets.map(|offset| Step::Read { width: 16, offset });
+        for step in looks.chain(reads) {
             assert_eq!(
-                read.on_archive(&mut archive),
-                read.on_independent(&mut independent),
-                "{}, after call {}, copy of board {place}, {read}: the archive (left)",
+                step.on_archive(&mut archive),
+                step.on_independent(&mut independent),
+                "{}, after call {}, copy of board {place}, {step}: the archive (left)",
                 self.name,
                 self.calls
             );
         }
+    }
+
+    /// Reads beside look and clear, of every slot, on copies of the archive's board.
+    fn compare_reads(&mut self, place: usize) {
+        let name = format!("{}, after call {}, board {place}", self.name, self.calls);
+        for slot in 0..32 {
+            check_reads(&self.archive[place], slot, SteppedBoard::answer, &name);
+        }
+        self.coverage.note(&Moment::Reads);
     }
 }
 
@@ -173,8 +196,9 @@ impl Boards<'_> {
             2 => self.restore(place),
             3 => self.swap(place),
             4 => self.compare_all(place),
-            5..=12 => self.jump(place),
-            13..=16 => {
+            5 => self.compare_reads(place),
+            6..=13 => self.jump(place),
+            14..=18 => {
                 let step = beyond_a_trace(&mut self.random);
                 self.make(place, step);
             }
@@ -215,6 +239,7 @@ impl Boards<'_> {
         self.saved.push(Pair {
             archive: self.archive[place],
             independent: self.independent[place].clone(),
+            slots: self.slots[place],
         });
         self.coverage.note(&Moment::Saved);
     }
@@ -228,10 +253,12 @@ impl Boards<'_> {
         let Pair {
             archive,
             independent,
+            slots,
         } = self.saved[which].clone();
         let is_other = self.archive[place] != archive;
         self.archive[place] = archive;
         self.independent[place] = independent;
+        self.slots[place] = slots;
         self.coverage.note(&Moment::Restored { is_other });
     }
 
@@ -239,6 +266,7 @@ impl Boards<'_> {
         let other = self.any_place();
         self.archive.swap(place, other);
         self.independent.swap(place, other);
+        self.slots.swap(place, other);
         if place != other {
             self.coverage.note(&Moment::Swapped);
         }
@@ -253,7 +281,9 @@ pub fn beyond_a_trace(random: &mut Random) -> Step {
     let offset = random.pick(&[0x00, 0x04, 0x0C, 0x14, 0x24, 0x40, 0x80, 0xFC]);
     let (channel, microvolts) = (random.below(32), random.pick(&[0, 1_000_000, -1]));
     let value = 1;
-    match random.below(5) {
+    let any_slot = random.below(32) + beyond_a_byte;
+    let slot = random.pick(&[any_slot, any_slot, any_slot, 1 << 8, u32::MAX]);
+    match random.below(7) {
         0 => Step::Read {
             width: width + beyond_a_byte,
             offset,
@@ -272,10 +302,12 @@ pub fn beyond_a_trace(random: &mut Random) -> Step {
             offset: offset + far,
             value,
         },
-        _ => Step::Input {
+        4 => Step::Input {
             channel: channel + beyond_a_byte,
             microvolts,
         },
+        5 => Step::Look { slot },
+        _ => Step::Clear { slot },
     }
 }
 
@@ -308,7 +340,7 @@ impl Made {
 }
 
 fn kinds_of_numbers() -> impl Iterator<Item = Kind<Moment>> {
-    (0..=14).map(|number| {
+    (0..=14).chain([22]).map(|number| {
         let is_met = move |moment: &Moment| match moment {
             Moment::Made(made) => made.answer.number == number,
             _ => false,
@@ -337,6 +369,28 @@ fn kinds_of_arguments() -> Vec<Kind<Moment>> {
             100,
             |made| matches!(made.step, Step::Open { range } if range > 0xFF),
         ),
+        made(
+            "look of a slot beyond a byte",
+            500,
+            |made| matches!(made.step, Step::Look { slot } if slot > 0xFF),
+        ),
+        made(
+            "clear of a slot beyond a byte",
+            500,
+            |made| matches!(made.step, Step::Clear { slot } if slot > 0xFF),
+        ),
+        made("look of slot 256", 100, |made| {
+            made.step == Step::Look { slot: 256 }
+        }),
+        made("clear of slot 256", 100, |made| {
+            made.step == Step::Clear { slot: 256 }
+        }),
+        made("look of slot 4,294,967,295", 100, |made| {
+            made.step == Step::Look { slot: u32::MAX }
+        }),
+        made("clear of slot 4,294,967,295", 100, |made| {
+            made.step == Step::Clear { slot: u32::MAX }
+        }),
     ]
 }
 
@@ -418,7 +472,17 @@ fn kinds_of_copies() -> Vec<Kind<Moment>> {
         kind("boards swapped", 500, |moment| {
             matches!(moment, Moment::Swapped)
         }),
+        kind("reads beside look and clear, all slots", 500, |moment| {
+            matches!(moment, Moment::Reads)
+        }),
     ]
+}
+
+fn noted_of(moment: &Moment) -> Option<&Noted> {
+    match moment {
+        Moment::Made(made) => Some(&made.noted),
+        _ => None,
+    }
 }
 
 /// Each with the least count for the test's calls.
@@ -429,5 +493,6 @@ pub fn all_kinds() -> Vec<Kind<Moment>> {
         .chain(kinds_of_cycles())
         .chain(kinds_of_the_line())
         .chain(kinds_of_copies())
+        .chain(looks::kinds(300, noted_of))
         .collect()
 }

@@ -1,4 +1,5 @@
-//! Traces: their bytes, the player and the text program, from the section of 01 with this name.
+//! Traces: their bytes, the player and the text program, from the section of 01 with this name; tags 07H
+//! and 08H from 02 (A2).
 
 use crate::analog::Answer;
 use crate::board::Board;
@@ -56,6 +57,8 @@ pub fn field_of(call: &Call) -> Vec<u8> {
         Call::Advance { ticks } => field(0x04, &ticks.to_le_bytes()),
         Call::Trigger => field(0x05, &[]),
         Call::Reset => field(0x06, &[]),
+        Call::Look { slot } => field(0x07, &[slot]),
+        Call::Clear { slot } => field(0x08, &[slot]),
     }
 }
 
@@ -100,6 +103,8 @@ fn handed_on<R>(tag: u8, body: &[u8], to: impl FnOnce(Call) -> R) -> Option<R> {
         }),
         (0x05, &[]) => to(Call::Trigger),
         (0x06, &[]) => to(Call::Reset),
+        (0x07, &[slot]) => to(Call::Look { slot }),
+        (0x08, &[slot]) => to(Call::Clear { slot }),
         _ => return None,
     };
     Some(result)
@@ -117,8 +122,8 @@ fn headed(trace: &[u8]) -> Option<(u32, &[u8])> {
     }
 }
 
-/// The bytes in the body of each tag's call, tags 01H to 06H.
-const BODIES: [usize; 6] = [3, 7, 5, 4, 0, 0];
+/// The bytes in the body of each tag's call, tags 01H to 08H.
+const BODIES: [usize; 8] = [3, 7, 5, 4, 0, 0, 1, 1];
 
 /// Question 19: "Is every later field whole, with a call's tag and its length?" How many there are.
 fn count_of(mut bytes: &[u8]) -> Option<usize> {
@@ -161,7 +166,7 @@ fn new_board(range: u32) -> Board {
 }
 
 fn answer_bytes(answer: Answer) -> [u8; ANSWER] {
-    let number = u8::try_from(answer.number).expect("numbers of calls are at most 14");
+    let number = u8::try_from(answer.number).expect("numbers of calls are at most 22");
     let value = u32::try_from(answer.value).expect("values of calls have 32 bits");
     let [a, b, c, d] = value.to_le_bytes();
     [number, a, b, c, d]

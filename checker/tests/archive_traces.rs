@@ -1,5 +1,5 @@
 //! The archive's player against the independent one: made-up traces, typed-in cases, every width,
-//! offset and Control word, and the longest trace.
+//! offset, slot and Control word, and the longest trace.
 
 use checker::archive;
 use checker::call::Call;
@@ -205,6 +205,24 @@ fn every_width_and_offset() {
                 calls.push(Call::Reset);
                 calls.extend(started(start));
             }
+        }
+        compare_list(start, &calls);
+    }
+}
+
+/// A look and a clear of every slot, and of those that there are not, with what is left.
+#[test]
+fn every_slot() {
+    for start in STARTS {
+        let mut calls = Vec::new();
+        for slot in 0..=255 {
+            calls.push(Call::Reset);
+            calls.extend(started(start));
+            calls.extend([Call::Look { slot }, Call::Clear { slot }]);
+            calls.extend((0..32).map(|slot| Call::Look { slot }));
+            calls.extend([0x14, 0x18, 0x1C, 0x20].map(|offset| Call::Read { width: 16, offset }));
+            calls.extend([Call::Advance { ticks: 120 }, Call::Trigger]);
+            calls.extend([Call::Look { slot: 0 }, Call::Look { slot: 16 }]);
         }
         compare_list(start, &calls);
     }

@@ -1,11 +1,12 @@
-//! Cases of 01 and of MANUALS.md on the independent board, by all of its routes: call by call, by
+//! Cases of 01, 02 (A2) and MANUALS.md on the independent board, by all of its routes: call by call, by
 //! the logbook, and as a trace.
 
 use checker::analog::{code, Answer};
 use checker::board::Board;
 use checker::call::Call;
 use checker::cases::{self, Case};
-use checker::logbook::Logbook;
+use checker::logbook::{Event, Logbook};
+use checker::looks::check_reads;
 use checker::script::steps;
 use checker::trace;
 
@@ -147,6 +148,58 @@ fn schedule_widths_and_reset() {
 }
 
 #[test]
+fn looks_and_clears() {
+    check(cases::LOOKS);
+}
+
+/// 02, A2: the read's board is the one that look and then clear leave, after every call of every case.
+/// The logbook's events are the same too: a clear is the event read, and a look is none.
+#[test]
+fn a_mailbox_read_is_a_look_and_then_a_clear() {
+    let (mut boards, mut unread) = (0, 0);
+    for case in cases::all() {
+        let mut board = Board::new(case.range.into()).0;
+        let mut logbook = Logbook::new(case.range.into());
+        for step in case.steps() {
+            board.call(&step.call);
+            for slot in 0..32 {
+                check_reads(&board, slot, Board::call, case.name);
+            }
+            boards += 1;
+            unread += u32::from(board.new_bits() != 0);
+            if logbook.call(&step.call).value <= 64 {
+                check_reads(&logbook, 0, Logbook::call, case.name);
+                check_reads(&logbook, 16, Logbook::call, case.name);
+            }
+        }
+    }
+    println!("{boards} boards, {unread} with a New slot: reads of every slot, look and clear");
+    assert!(boards > 800 && unread > 300);
+}
+
+#[test]
+fn the_events_of_a_look_and_a_clear() {
+    let mut logbook = Logbook::new(1);
+    for step in steps("look 5 = 0; clear 5; look 32 refused 22; clear 32 refused 22; read 16 94H") {
+        assert_eq!(logbook.call(&step.call), step.expected);
+    }
+    let read = Event::Read { slot: 5 };
+    assert_eq!(logbook.events, [Event::Reset, read, read]);
+}
+
+#[test]
+fn question_22() {
+    for slot in (32..300).chain([1 << 8, 1 << 16, 1 << 31, u32::MAX]) {
+        let mut board = Board::new(1).0;
+        let before = board.clone();
+        for answer in [board.look(slot), board.clear(slot)] {
+            assert_eq!((answer.number, answer.value), (22, 0), "slot {slot}");
+        }
+        assert_eq!(board, before, "slot {slot}");
+    }
+}
+
+#[test]
 fn question_14() {
     for range in 0..=3 {
         assert_eq!(Board::new(range).1.number, 0);
@@ -195,6 +248,10 @@ fn every_slot_has_its_mailbox_and_its_bits() {
             };
             assert_eq!(board.read(16, 0x14 + 4 * word).value, expected);
             assert_eq!(board.read(16, 0x1C + 4 * word).value, expected);
+        }
+        for other in 0..32 {
+            let expected = if other == slot { 0x3_A000 } else { 0 };
+            assert_eq!(board.look(other).value, expected);
         }
         for other in 0..32 {
             let expected = if other == slot { 40_960 } else { 0 };

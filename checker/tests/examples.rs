@@ -34,7 +34,10 @@ fn trace_of_text(text: &str) -> Vec<u8> {
 #[test]
 fn each_example_prints_what_is_stored() {
     let paths = examples();
-    assert!(paths.len() >= 6, "the first trace and the five scan modes");
+    assert!(
+        paths.len() >= 7,
+        "the first trace, the five scan modes and the front panel"
+    );
     for path in paths {
         let text = fs::read_to_string(&path).expect("the calls");
         let stored = fs::read_to_string(path.with_extension("lines")).expect("the lines");

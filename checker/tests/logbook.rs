@@ -46,6 +46,9 @@ impl Pair {
             board: self.board.clone(),
             logbook: self.logbook.clone(),
         };
+        for slot in 0..32 {
+            pair.call(&Call::Look { slot }, name);
+        }
         for offset in (0..256).step_by(4) {
             pair.call(&Call::Read { width: 16, offset }, name);
         }
@@ -200,6 +203,22 @@ fn every_width_and_offset() {
                     pair.call(&write, "");
                 }
             }
+        }
+    }
+}
+
+/// A look and a clear of every slot, and of those that there are not.
+#[test]
+fn every_slot() {
+    for start in starting_points() {
+        for slot in 0..=255 {
+            let mut pair = Pair {
+                board: start.board.clone(),
+                logbook: start.logbook.clone(),
+            };
+            pair.call(&Call::Look { slot }, "");
+            pair.call(&Call::Clear { slot }, "");
+            pair.compare_all(&format!("clear {slot}"));
         }
     }
 }

@@ -8,8 +8,10 @@ use checker::call::Call;
 use checker::cases;
 use checker::coverage::Coverage;
 use checker::generator::{hostile, marathon, scenes, sprint};
+use checker::looks::check_reads;
 use checker::random::{seed_or, Random};
-use checker::stepped::{answers_by_functions, places, BYTES};
+use checker::script::steps;
+use checker::stepped::{answers_by_functions, places, SteppedBoard, BYTES};
 use checker::stepping::{self, step_a_list};
 use checker::trace::trace_of;
 
@@ -117,5 +119,44 @@ fn typed_in_cases() {
                 step.call
             );
         }
+    }
+}
+
+/// 02, A2, of all 324 bytes: the struct that a mailbox read leaves is the one that look and then clear
+/// leave, after every call of every case; and the read's value is in the look's low 16 bits.
+#[test]
+fn a_mailbox_read_is_a_look_and_then_a_clear() {
+    for case in cases::all() {
+        let mut board = SteppedBoard::filled(0x5A);
+        assert_eq!(board.open(case.range.into()), 0);
+        for step in case.steps() {
+            board.call(&step.call);
+            for slot in 0..32 {
+                check_reads(&board, slot, SteppedBoard::answer, case.name);
+            }
+        }
+    }
+}
+
+/// Slots beyond a trace's byte: those whose low bits alone would be a good one, and the greatest.
+#[test]
+fn every_slot_beyond_a_trace() {
+    let start = "write 16 04H 0309H; write 16 10H 1F00H; write 16 24H 1; advance 7624 = 64";
+    let mut board = SteppedBoard::filled(0x5A);
+    assert_eq!(board.open(1), 0);
+    for step in steps(start) {
+        assert_eq!(board.answer(&step.call), step.expected);
+    }
+    let before = board;
+    let far = (8..32).flat_map(|bit| [0, 1, 31, 32].map(|more| (1 << bit) + more));
+    for slot in (32..1_000).chain(far).chain([u32::MAX - 1, u32::MAX]) {
+        assert_eq!(board.look(slot), 22, "look {slot}");
+        assert_eq!(board.clear(slot), 22, "clear {slot}");
+        assert!(board == before, "slot {slot}");
+    }
+    for slot in 0..32 {
+        assert_eq!(board.look(slot), 256 * 0x3_8000, "look {slot}");
+        assert_eq!(board.clear(slot), 0, "clear {slot}");
+        assert_eq!(board.look(slot), 256 * 0x8000, "look {slot}");
     }
 }

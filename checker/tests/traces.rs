@@ -7,6 +7,7 @@ use checker::call::Call;
 use checker::cases::{self, SEVEN_CALLS};
 use checker::coverage::Coverage;
 use checker::logbook::Logbook;
+use checker::looks::Slots;
 use checker::made_up::{check_longest, made_up, MadeUp, SEED, TRACES};
 use checker::moments::{all_kinds, played, Accesses};
 use checker::random::seed_or;
@@ -47,9 +48,9 @@ fn what_made_up_traces_reach() {
             continue;
         }
         let (range, list) = decoded(&made.trace).expect("it was played");
-        let mut board = Board::new(range).0;
+        let (mut board, mut slots) = (Board::new(range).0, Slots::default());
         for (call, answer) in list.iter().zip(answers_of(&buffer)) {
-            let moment = played(&mut board, call);
+            let moment = played(&mut board, &mut slots, call);
             assert_eq!(moment.answer, answer, "seed {seed}, trace {index}, {call}");
             coverage.note(&moment);
             accesses.note(&moment);
@@ -75,6 +76,7 @@ fn what_made_up_traces_do_to_their_buffers() {
         let (calls, number) = (result as usize / 256, result % 256);
         let name = format!("seed {seed}, trace {index}");
         assert_eq!(number, expected_number(&made), "{name}");
+        assert!(number == 19 || !is_no_call(made.damage), "{name}");
         let written = 5 * calls;
         assert_eq!(buffer.len(), made.answers.len(), "{name}");
         assert_eq!(buffer[written..], made.answers[written..], "{name}: beyond");
@@ -90,8 +92,16 @@ fn what_made_up_traces_do_to_their_buffers() {
     print_counts(&damages);
     assert_eq!(met.len(), 5, "played in two ways, refused in three");
     assert!(met.values().all(|count| *count >= 100));
-    assert_eq!(damages.len(), 15, "every kind of damage");
+    assert_eq!(damages.len(), 17, "every kind of damage");
     assert!(damages.values().all(|count| *count >= 5));
+}
+
+/// Damage after which a field cannot be a call's.
+fn is_no_call(damage: &str) -> bool {
+    matches!(
+        damage,
+        "field with no call's tag" | "field with tag 09H" | "look or clear with another length"
+    )
 }
 
 fn expected_number(made: &MadeUp) -> u64 {
@@ -204,19 +214,23 @@ fn the_trace_of_seven_lines() {
 /// The body of every kind of call, with numbers low byte first.
 #[test]
 fn fields_of_calls() {
-    let list =
-        "read 16 1234H; write 8 4321H 89ABCDEFH; input 7 -2; advance 12345678H; trigger; reset";
+    let list = "
+        read 16 1234H; write 8 4321H 89ABCDEFH; input 7 -2; advance 12345678H; trigger; reset
+        look 31; clear 255
+    ";
     let fields: Vec<Vec<u8>> = steps(list)
         .iter()
         .map(|step| field_of(&step.call))
         .collect();
-    let expected: [&[u8]; 6] = [
+    let expected: [&[u8]; 8] = [
         &[0x01, 3, 0, 16, 0x34, 0x12],
         &[0x02, 7, 0, 8, 0x21, 0x43, 0xEF, 0xCD, 0xAB, 0x89],
         &[0x03, 5, 0, 7, 0xFE, 0xFF, 0xFF, 0xFF],
         &[0x04, 4, 0, 0x78, 0x56, 0x34, 0x12],
         &[0x05, 0, 0],
         &[0x06, 0, 0],
+        &[0x07, 1, 0, 31],
+        &[0x08, 1, 0, 255],
     ];
     assert_eq!(fields, expected);
 }
@@ -251,7 +265,16 @@ fn every_byte_of_the_heading() {
 /// A field is a call's with that call's tag and length only.
 #[test]
 fn every_tag_and_length() {
-    let calls = [(1, 3), (2, 7), (3, 5), (4, 4), (5, 0), (6, 0)];
+    let calls = [
+        (1, 3),
+        (2, 7),
+        (3, 5),
+        (4, 4),
+        (5, 0),
+        (6, 0),
+        (7, 1),
+        (8, 1),
+    ];
     for (tag, length) in (0..=255).flat_map(|tag| (0..300).map(move |length| (tag, length))) {
         let trace = [heading(0), field(tag, &vec![0; length])].concat();
         let is_call = calls.contains(&(tag, length));

@@ -4,8 +4,8 @@ use mathlib.Core.List.{List, [], _∷_}
 use mathlib.Core.Path.{_≡_, refl, sym, ap, _∙_}
 use Prim.Native.Nat.{ℕ, _<_}
 use native.Mathlib.Omega.{arith}
-use lib.Dec.{ltb}
-use borrow.Author.Tests.{eq-eqb, ne-eqb, ltb-true}
+use lib.Dec.{eqb, ltb}
+use borrow.Author.Tests.{eq-eqb, ne-eqb, eqb-true, ltb-true}
 use Rattle.analog.specs.Answers.{Question, firstNo, allMet, answered, numberOf, valueOf, isAccepted}
 use Rattle.analog.specs.Sentences.{AnsweredBy}
 use Rattle.analog.specs.declared.Answer.{Answer}
@@ -70,3 +70,21 @@ module _ (questions : List Question) (value : ℕ) (n : numbered questions ≡ t
 
   pub answered-by : AnsweredBy questions (answered questions value)
   answered-by = by-cases (answered questions value) (allMet questions) refl refl
+
+-- an accepted answer has no first no
+pub accepted-none : (questions : List Question) (value : ℕ) → isAccepted (answered questions value) ≡ true → firstNo questions ≡ 0
+unfolding answered
+accepted-none questions value e = go (eqb (firstNo questions) 0) refl e
+  where
+    go : (none : Bool) → eqb (firstNo questions) 0 ≡ none → isAccepted (cond none (Accepted value) (Refused (firstNo questions))) ≡ true → firstNo questions ≡ 0
+    go true n e = eqb-true (firstNo questions) 0 n
+    go false n e = absurd (false≢true e)
+
+-- of a call's value only that of an accepted call is answered
+pub same-if-met : (questions : List Question) (value other : ℕ) → (firstNo questions ≡ 0 → value ≡ other) → answered questions value ≡ answered questions other
+unfolding answered
+same-if-met questions value other same = go (eqb (firstNo questions) 0) refl
+  where
+    go : (none : Bool) → eqb (firstNo questions) 0 ≡ none → _≡_ {A = Answer} (cond none (Accepted value) (Refused (firstNo questions))) (cond none (Accepted other) (Refused (firstNo questions)))
+    go true n = ap Accepted (same (eqb-true (firstNo questions) 0 n))
+    go false n = refl

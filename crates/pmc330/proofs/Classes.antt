@@ -1,5 +1,6 @@
 -- Every entry of the class table follows the word rule: one test that antt computes, and one law that makes it the rule at each entry.
-use mathlib.Core.Bool.{Bool, true, false, _&&_}
+-- Then which classes are mailboxes.
+use mathlib.Core.Bool.{Bool, true, false, cond, _&&_}
 use mathlib.Core.List.{List, [], _∷_}
 use mathlib.Core.Path.{_≡_, refl, sym, ap, subst, _∙_}
 use Prim.Native.Nat.{ℕ, zero, suc, _+_, _-_, _/_, _%_, _≤_, _<_}
@@ -8,9 +9,9 @@ use native.Mathlib.Omega.{arith}
 use lib.Dec.{T, eqb, ltb, eqb→eq}
 use lib.ListN.{length, getD}
 use borrow.Author.Tests.{lt-ltb, le-ltb}
-use Rattle.pmc330_model.specs.Map.{Register, unmapped, interrupt, control, prescaler, timer, channels, startConvert, newData, missedData, gain, mailbox, wordAt, classOf}
+use Rattle.pmc330_model.specs.Map.{Register, unmapped, interrupt, control, prescaler, timer, channels, startConvert, newData, missedData, gain, mailbox, ifMailbox, wordAt, classOf}
 use Rattle.pmc330_model.proofs.Reading.{Placed, placed}
-use Rattle.pmc330.specs.Classes.{registerOf}
+use Rattle.pmc330.specs.Classes.{lowClasses, registerOf}
 
 -- the class of a register
 abbrev classNumber : Register → ℕ
@@ -100,3 +101,37 @@ class-beyond offset h = sym (go (ltb (offset % 4) 2))
     go : (live : Bool) → mathlib.Core.Bool.cond live (wordAt (offset / 4)) unmapped ≡ unmapped
     go true = rw (far 0x10 (omega arith), far 0x14 (omega arith), far 0x20 (omega arith), far 0x40 (omega arith))
     go false = refl
+
+-- only classes 32 to 63 are mailboxes
+no-mailbox : {A : Type 0} (f : ℕ → A) (x : A) (n : ℕ) → ifMailbox (getD lowClasses n unmapped) f x ≡ x
+no-mailbox f x zero = refl
+no-mailbox f x (suc zero) = refl
+no-mailbox f x (suc (suc zero)) = refl
+no-mailbox f x (suc (suc (suc zero))) = refl
+no-mailbox f x (suc (suc (suc (suc zero)))) = refl
+no-mailbox f x (suc (suc (suc (suc (suc zero))))) = refl
+no-mailbox f x (suc (suc (suc (suc (suc (suc zero)))))) = refl
+no-mailbox f x (suc (suc (suc (suc (suc (suc (suc zero))))))) = refl
+no-mailbox f x (suc (suc (suc (suc (suc (suc (suc (suc zero)))))))) = refl
+no-mailbox f x (suc (suc (suc (suc (suc (suc (suc (suc (suc zero))))))))) = refl
+no-mailbox f x (suc (suc (suc (suc (suc (suc (suc (suc (suc (suc zero)))))))))) = refl
+no-mailbox f x (suc (suc (suc (suc (suc (suc (suc (suc (suc (suc (suc n))))))))))) = refl
+
+pub low-class : {A : Type 0} (f : ℕ → A) (x : A) (class : ℕ) → class < 32 → ifMailbox (registerOf class) f x ≡ x
+unfolding registerOf
+low-class f x class h = rw (lt-ltb class 32 h) (go (ltb class 11) (ltb class 15))
+  where
+    go : (low gains : Bool) → ifMailbox (cond low (getD lowClasses class unmapped) (cond gains (gain (class - 11)) unmapped)) f x ≡ x
+    go true gains = no-mailbox f x class
+    go false true = refl
+    go false false = refl
+
+pub mailbox-class : (class : ℕ) → 32 ≤ class → class < 64 → registerOf class ≡ mailbox (class - 32)
+unfolding registerOf
+mailbox-class class least most =
+    rw (le-ltb class 11 (omega arith), le-ltb class 15 (omega arith), le-ltb class 32 least, lt-ltb class 64 most)
+
+pub high-class : (class : ℕ) → 64 ≤ class → registerOf class ≡ unmapped
+unfolding registerOf
+high-class class least =
+    rw (le-ltb class 11 (omega arith), le-ltb class 15 (omega arith), le-ltb class 32 (omega arith), le-ltb class 64 least)

@@ -14,7 +14,7 @@ use Rattle.pmc330_model.specs.declared.Reply.{Reply}
 use Rattle.pmc330.specs.Steps.{boardWith, coreIn, wordsWith}
 use Rattle.pmc330.specs.declared.held.Core.{Core}
 use Rattle.pmc330.proofs.HeldLaws.{Narrow, words-back, core-back}
-use Rattle.pmc330.proofs.ReplyLaws.{refused-reply, accepted-reply}
+use Rattle.pmc330_model.proofs.Replies.{refused-reply, accepted-reply}
 
 -- what a call in place promises, without the words and with them
 abbrev pub Replied : Reply → Answer → Board → Type 0

@@ -8,7 +8,6 @@ pub mod SpanLaws
 pub mod QuestionLaws
 pub mod WordLaws
 pub mod HeldLaws
-pub mod ReplyLaws
 pub mod StartLaws
 pub mod AccessLaws
 pub mod LentLaws

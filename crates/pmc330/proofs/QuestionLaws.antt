@@ -1,4 +1,4 @@
--- The questions in order, and what a class says of its register.
+-- The questions in order, what a class says of its register, and what the questions of other calls leave.
 use mathlib.Core.Bool.{Bool, true, false, not, cond, _&&_}
 use mathlib.Core.List.{List, [], _∷_, _++_}
 use mathlib.Core.Logic.{⊎-elim}
@@ -6,14 +6,19 @@ use mathlib.Core.Path.{_≡_, refl, sym, _∙_}
 use Prim.Native.Nat.{ℕ, zero, suc, _^_, _≤_, _<_}
 use native.Mathlib.Omega.{arith}
 use lib.Dec.{T, eqb, ltb, leb}
+use lib.IntN.{ℤ}
 use mir.Syntax.{w8}
 use mir.Val.{Fits}
-use borrow.Author.Tests.{ne-eqb}
+use borrow.Author.Tests.{ne-eqb, leb-true, le-leb, lt-leb}
 use Rattle.analog.specs.Answers.{Question, question, firstNo}
 use Rattle.pmc330_model.specs.Map.{Register, isMapped, isReadable, isWritable, ifInterrupt, ifControl, ifChannels, ifStartConvert, scanField}
 use Rattle.pmc330_model.specs.Words.{bitOf, isStart}
-use Rattle.pmc330_model.specs.Questions.{isWidth, isAligned, isAllowed, hasUsedCodes, isValid, accessQuestions}
+use Rattle.pmc330_model.specs.Calls.{advance}
+use Rattle.pmc330_model.specs.Questions.{isWidth, isAligned, isAllowed, hasUsedCodes, isValid, accessQuestions, inputQuestions, slotQuestions, callQuestions}
+use Rattle.pmc330_model.specs.Board.{questionsOf}
+use Rattle.pmc330_model.specs.declared.Board.{Board}
 use Rattle.pmc330_model.specs.declared.Registers.{Registers}
+use Rattle.pmc330_model.proofs.QuestionLaws.{first-met}
 use Rattle.pmc330.specs.Classes.{registerOf}
 use Rattle.pmc330.specs.Widths.{powerOf}
 use Rattle.pmc330.proofs.WidthLaws.{width-is, power-is}
@@ -56,11 +61,6 @@ pub record Met (width offset : ℕ) (register : Register) : Type 0 where
   pub later : (asked : List Question) → firstNo (accessQuestions width offset register ++ asked) ≡ firstNo asked
   pub power : powerOf width ≡ 2 ^ width
 
-first-met : (a b c : Bool) → firstNo (question 1 a ∷ question 2 b ∷ question 3 c ∷ []) ≡ 0 → a ≡ true
-unfolding firstNo
-first-met true b c e = refl
-first-met false b c e = absurd (omega arith)
-
 module _ (width offset : ℕ) (register : Register) {n : ℕ} (number : n ≡ firstNo (accessQuestions width offset register)) where
   after : (later : List Question) → firstNo (accessQuestions width offset register ++ later) ≡ cond (eqb n 0) (firstNo later) n
   after later = rw number (access-then (isWidth width) (isAligned width offset) (isMapped register) later)
@@ -72,7 +72,7 @@ module _ (width offset : ℕ) (register : Register) {n : ℕ} (number : n ≡ fi
   access-met met =
       record {
         later = λ asked. after asked ∙ rw met;
-        power = power-is width (width-is width (first-met (isWidth width) (isAligned width offset) (isMapped register) (sym number ∙ met)));
+        power = power-is width (width-is width (first-met 0 (isWidth width) _ (sym number ∙ met)));
       }
 
 -- one computed test for each rule about classes: two answers are the same at every class
@@ -173,3 +173,20 @@ start-by false = by-class (λ register. ifStartConvert register false false) (st
 
 pub start-class : (word : ℕ) {class : ℕ} → Fits w8 class → isStart (registerOf class) word ≡ startClass (bitOf 0 word) class
 start-class word = start-by (bitOf 0 word)
+
+-- question 13, and what questions 11 and 12 leave
+module _ (b : Board) (ticks : ℕ) where
+  pub advance-refused : 16_777_216 < ticks → 13 ≡ firstNo (questionsOf b (advance ticks))
+  unfolding callQuestions firstNo
+  advance-refused h = rw (lt-leb ticks 16_777_216 h)
+
+  pub advance-met : ticks ≤ 16_777_216 → firstNo (questionsOf b (advance ticks)) ≡ 0
+  unfolding callQuestions firstNo
+  advance-met h = rw (le-leb ticks 16_777_216 h)
+
+pub input-channel : (channel : ℕ) (v : ℤ) → firstNo (inputQuestions channel v) ≡ 0 → channel ≤ 31
+input-channel channel v none = leb-true channel 31 (first-met 10 _ _ none)
+
+-- and what question 22 leaves
+pub slot-low : (slot : ℕ) → firstNo (slotQuestions slot) ≡ 0 → slot ≤ 31
+slot-low slot none = leb-true slot 31 (first-met 21 _ _ none)

@@ -1,10 +1,11 @@
 // The calls in place, on a board that is lent in parts: its four arrays, and 17 words that hold the rest.
-// What a call changes is lent for change; the rest of the board is lent to be read.
+// What a call changes is lent for change; the rest of the board is lent to be read, but for a look and a clear, which are
+// lent no more than they need.
 ghost use mathlib.Core.Bool.{_&&_, cond, not};
 ghost use mathlib.Core.List.{List};
 ghost use mathlib.Core.Path.{_≡_};
 ghost use Prim.Native.Nat.{ℕ, _<_};
-ghost use Rattle.pmc330_model.specs.Board.{idleCycle, afterWrite, readCall, writeCall, inputCall, advanceCall, triggerCall, resetCall, requestLine, nextStore};
+ghost use Rattle.pmc330_model.specs.Board.{idleCycle, afterWrite, readCall, writeCall, inputCall, advanceCall, triggerCall, resetCall, lookCall, clearCall, requestLine, nextStore};
 ghost use Rattle.pmc330_model.specs.Map.{ifMailbox};
 ghost use Rattle.pmc330_model.specs.Lent.{boardIn, wordsAfter, openCall};
 ghost use lib.IntN.{ℤ};
@@ -250,6 +251,31 @@ pub fn reset(
     *codes = [0u16; 32];
     *unread = [0u8; 32];
     Answer::Accepted(0) // a reset is asked nothing
+}
+
+// A look at a slot: its code, and its New and Missed bits. It changes nothing, and the other parts do not matter.
+pub fn look(codes: &[u16; 32], unread: &[u8; 32], slot: u32) -> Answer
+    ensures { λ r. ⌜ ((words : List ℕ) (inputs : List ℤ) (gains : List ℕ) → (r ≡ lookCall (boardIn words inputs gains (now (codes .entry)) (now (unread .entry))) slot .answer) × (boardIn words inputs gains (now (codes .entry)) (now (unread .entry)) ≡ lookCall (boardIn words inputs gains (now (codes .entry)) (now (unread .entry))) slot .board)) ⌝ }
+{
+    let number = questions::slot_number(slot);
+    if number != 0 {
+        return Answer::Refused(number);
+    }
+    let at = (slot % 32) as usize;
+    Answer::Accepted(map_words::look_value(codes[at], unread[at]))
+}
+
+// A clear of a slot: its New and Missed bits, as a mailbox read clears them. The other parts do not matter.
+pub fn clear(unread: &mut [u8; 32], slot: u32) -> Answer
+    ensures { λ r. ⌜ ((words : List ℕ) (inputs : List ℤ) (gains codes : List ℕ) → (r ≡ clearCall (boardIn words inputs gains codes (now (unread .entry))) slot .answer) × (boardIn words inputs gains codes (now (unread .exit)) ≡ clearCall (boardIn words inputs gains codes (now (unread .entry))) slot .board)) ⌝ }
+{
+    let number = questions::slot_number(slot);
+    if number != 0 {
+        return Answer::Refused(number);
+    }
+    let at = (slot % 32) as usize;
+    unread[at] = 0;
+    Answer::Accepted(0)
 }
 
 // The request line: enable and pending. The arrays do not matter.

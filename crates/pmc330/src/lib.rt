@@ -14,8 +14,9 @@ mod widths;
 mod words;
 
 ghost use mathlib.Core.Path.{_≡_};
-ghost use Rattle.pmc330_model.specs.Board.{readCall, writeCall, inputCall, advanceCall, triggerCall, resetCall, newCall, requestLine, nextStore};
+ghost use Rattle.pmc330_model.specs.Board.{readCall, writeCall, inputCall, advanceCall, triggerCall, resetCall, lookCall, clearCall, newCall, requestLine, nextStore};
 use pmc330_model::Board;
+use pmc330_model::Look;
 use pmc330_model::Reply;
 
 // A new board of a range.
@@ -152,6 +153,27 @@ pub fn reset(b: Board) -> Reply
         board: held::put_together(&words, inputs, gains, codes, unread),
         answer,
     }
+}
+
+// A look at a slot: its code, and its New and Missed bits. It changes nothing.
+pub fn look(b: Board, slot: u32) -> Look
+    ensures { λ r. ⌜ r ≡ lookCall b slot ⌝ }
+{
+    let codes = b.codes;
+    let unread = b.unread;
+    let answer = lent::look(&codes, &unread, slot);
+    Look { board: b, answer }
+}
+
+// A clear of a slot: its New and Missed bits, as a mailbox read clears them.
+pub fn clear(b: Board, slot: u32) -> Reply
+    ensures { λ r. ⌜ r ≡ clearCall b slot ⌝ }
+{
+    let mut board = b;
+    let mut unread = b.unread;
+    let answer = lent::clear(&mut unread, slot);
+    board.unread = unread;
+    Reply { board, answer }
 }
 
 // The request line: enable and pending.

@@ -1,10 +1,10 @@
-// Document 01's questions, asked in order. Each number is that of the first no; 0 if there is none.
+// The questions of documents 01 and 02, asked in order. Each number is that of the first no; 0 if there is none.
 ghost use mathlib.Core.Path.{_≡_};
 ghost use Prim.Native.Nat.{_≤_};
 ghost use Rattle.analog.specs.Answers.{firstNo};
 ghost use Rattle.pmc330_model.specs.Map.{isMapped, isReadable, isWritable};
 ghost use Rattle.pmc330_model.specs.Words.{bitOf, isStart};
-ghost use Rattle.pmc330_model.specs.Questions.{isWidth, isAligned, isAllowed, hasUsedCodes, isValid, hasChannels, hasInterval, startQuestions, accessQuestions, readQuestions, wordQuestions, writeQuestions, isInput, inputQuestions};
+ghost use Rattle.pmc330_model.specs.Questions.{isWidth, isAligned, isAllowed, hasUsedCodes, isValid, hasChannels, hasInterval, startQuestions, accessQuestions, readQuestions, wordQuestions, writeQuestions, isInput, inputQuestions, slotQuestions};
 ghost use Rattle.pmc330.specs.Classes.{registerOf};
 use super::fields;
 use super::widths;
@@ -268,6 +268,16 @@ pub(crate) fn input_number(channel: u32, microvolts: i32) -> u8
     }
     if !is_input(microvolts) {
         return 12;
+    }
+    0
+}
+
+// Question 22.
+pub(crate) fn slot_number(slot: u32) -> u8
+    ensures { λ n. ⌜ n ≡ firstNo (slotQuestions slot) ⌝ }
+{
+    if 31 < slot {
+        return 22;
     }
     0
 }

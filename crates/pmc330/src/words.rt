@@ -1,4 +1,5 @@
 // What the words of the register map hold, and what a read or a write of any width covers of them.
+ghost use mathlib.Core.Bool.{cond};
 ghost use mathlib.Core.Path.{_≡_};
 ghost use Prim.Native.Nat.{_+_, _-_, _/_, _%_, _^_, _≤_, _<_};
 ghost use lib.Dec.{leb};
@@ -108,6 +109,13 @@ pub(crate) fn read_word(
         32..=63 => mailbox_word(codes, class),
         _ => held_word(r, gains, class),
     }
+}
+
+// What a look shows of a slot: its code, 65,536 more if New and 131,072 more if Missed.
+pub(crate) fn look_value(code: u16, stores: u8) -> u32
+    ensures { λ v. ⌜ v ≡ code + cond (leb 1 stores) 65_536 0 + cond (leb 2 stores) 131_072 0 ⌝ }
+{
+    (code as u32) + bit(1 <= stores) * 65_536 + bit(2 <= stores) * 131_072
 }
 
 // The weight of the byte at a place.

@@ -8,7 +8,7 @@ use native.Mathlib.Omega.{arith}
 use lib.Dec.{leb}
 use borrow.Author.Tests.{le-leb, lt-leb}
 use Rattle.analog.specs.Answers.{packed, answered, firstNo, isAccepted}
-use Rattle.pmc330_model.specs.Calls.{Call, read, write, input, advance, trigger, reset}
+use Rattle.pmc330_model.specs.Calls.{Call, read, write, input, advance, trigger, reset, look, clear}
 use Rattle.pmc330_model.specs.Board.{newBoard, nextStore, questionsOf, boardCall, boardFrom, answersFrom}
 use Rattle.pmc330_model.specs.Lent.{Parts, parts, heldBy, openCall, wordsOf}
 use Rattle.pmc330_model.specs.Logbook.{logbookOf}
@@ -70,6 +70,8 @@ words-kept (input channel microvolts) reply words refused = refl
 words-kept (advance ticks) reply words refused = ap (λ (t : Bool). cond t (wordsOf (reply .board)) words) refused
 words-kept trigger reply words refused = ap (λ (t : Bool). cond t (wordsOf (reply .board)) words) refused
 words-kept reset reply words refused = ap (λ (t : Bool). cond t (wordsOf (reply .board)) words) refused
+words-kept (look slot) reply words refused = refl
+words-kept (clear slot) reply words refused = refl
 
 pub refusedSteps : EveryRefusedStep
 refusedSteps before after call result h unmet =

@@ -5,7 +5,7 @@ use mathlib.Core.List.{List, [], _∷_}
 use mathlib.Core.Path.{_≡_}
 use Rattle.analog.specs.Answers.{packed, allMet, firstNo}
 use Rattle.analog.specs.declared.Answer.{Answer}
-use Rattle.pmc330_model.specs.Calls.{Call, read, write, input, advance, trigger, reset}
+use Rattle.pmc330_model.specs.Calls.{Call, read, write, input, advance, trigger, reset, look, clear}
 use Rattle.pmc330_model.specs.Board.{questionsOf, boardCall, nextStore, boardAfter, answersOf}
 use Rattle.pmc330_model.specs.Lent.{Parts, heldBy, openCall, wordsAfter}
 use Rattle.pmc330_model.specs.Logbook.{logbookOf, logbookAnswers}
@@ -14,7 +14,8 @@ use Rattle.pmc330_model.specs.declared.Reply.{Reply}
 
 -- ---- one call
 
--- the words after a call: a read and an input have them to read only, the other calls write all of them where accepted
+-- the words after a call: a read and an input have them to read only, a look and a clear not even that; the other calls write
+-- all of them where accepted
 abbrev pub wordsLeft : Call → Reply → (words : List ℕ) → List ℕ
 wordsLeft (read width offset) reply words = words
 wordsLeft (write width offset value) reply words = wordsAfter reply words
@@ -22,6 +23,8 @@ wordsLeft (input channel microvolts) reply words = words
 wordsLeft (advance ticks) reply words = wordsAfter reply words
 wordsLeft trigger reply words = wordsAfter reply words
 wordsLeft reset reply words = wordsAfter reply words
+wordsLeft (look slot) reply words = words
+wordsLeft (clear slot) reply words = words
 
 -- what C gets back, 256 × value + number, and what the parts hold then: the board's four arrays and the words
 pub record Left (reply : Reply) (kept : List ℕ) (result : ℕ) (after : Parts) : Type 0 where

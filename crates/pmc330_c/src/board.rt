@@ -3,7 +3,7 @@ ghost use mathlib.Core.List.{List};
 ghost use mathlib.Core.Path.{_≡_};
 ghost use Prim.Native.Nat.{ℕ};
 ghost use Rattle.pmc330_model.specs.Board.{requestLine, nextStore};
-ghost use Rattle.pmc330_model.specs.Calls.{read, write, input, advance, trigger, reset};
+ghost use Rattle.pmc330_model.specs.Calls.{read, write, input, advance, trigger, reset, look, clear};
 ghost use Rattle.pmc330_model.specs.Lent.{boardIn, parts};
 ghost use Rattle.pmc330_model.specs.Words.{toBit};
 ghost use lib.IntN.{ℤ};
@@ -116,6 +116,22 @@ pub extern "C" fn pmc330_parts_reset(
     ensures { λ r. ⌜ Stepped (parts (now (words .entry)) (now (inputs .entry)) (now (gains .entry)) (now (codes .entry)) (now (unread .entry))) reset r (parts (now (words .exit)) (now (inputs .entry)) (now (gains .exit)) (now (codes .exit)) (now (unread .exit))) ⌝ }
 {
     packed_answer(lent::reset(words, inputs, gains, codes, unread))
+}
+
+// A look at a slot. The other parts do not matter.
+#[no_mangle]
+pub extern "C" fn pmc330_parts_look(codes: &[u16; 32], unread: &[u8; 32], slot: u32) -> u64
+    ensures { λ r. ⌜ ((words : List ℕ) (inputs : List ℤ) (gains : List ℕ) → Stepped (parts words inputs gains (now (codes .entry)) (now (unread .entry))) (look slot) r (parts words inputs gains (now (codes .entry)) (now (unread .entry)))) ⌝ }
+{
+    packed_answer(lent::look(codes, unread, slot))
+}
+
+// A clear of a slot. The other parts do not matter.
+#[no_mangle]
+pub extern "C" fn pmc330_parts_clear(unread: &mut [u8; 32], slot: u32) -> u64
+    ensures { λ r. ⌜ ((words : List ℕ) (inputs : List ℤ) (gains codes : List ℕ) → Stepped (parts words inputs gains codes (now (unread .entry))) (clear slot) r (parts words inputs gains codes (now (unread .exit)))) ⌝ }
+{
+    packed_answer(lent::clear(unread, slot))
 }
 
 // The request line, 0 or 1. The arrays do not matter.

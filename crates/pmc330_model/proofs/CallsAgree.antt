@@ -1,15 +1,16 @@
 -- Each call keeps the board and its logbook related, and both give the same answer.
 use mathlib.Core.Bool.{Bool, true, false, not, cond, false≢true}
 use mathlib.Core.List.{List, [], _∷_}
-use mathlib.Core.Path.{_≡_, refl, sym, ap, ap₂, subst, _∙_}
+use mathlib.Core.Path.{_≡_, refl, sym, ap, subst, _∙_}
 use Prim.Native.Nat.{ℕ, _-_}
 use native.Mathlib.Omega.{arith}
 use lib.Dec.{eqb}
-use borrow.Author.Tests.{eqb-true}
-use Rattle.analog.specs.Answers.{Question, question, firstNo, answered}
+use borrow.Author.Tests.{eqb-true, leb-true}
+use Rattle.analog.specs.Answers.{Question, question, firstNo}
+use Rattle.analog.proofs.AnswerLaws.{same-if-met}
 use Rattle.pmc330_model.specs.Map.{Register, unmapped, interrupt, control, prescaler, timer, channels, startConvert, newData, missedData, gain, mailbox, classOf, scanField}
 use Rattle.pmc330_model.specs.Words.{withWord, readBytes, isStart}
-use Rattle.pmc330_model.specs.Calls.{Call, read, write, input, advance, trigger, reset}
+use Rattle.pmc330_model.specs.Calls.{Call, read, write, input, advance, trigger, reset, look, clear}
 use Rattle.pmc330_model.specs.Board.{afterRead, afterCall, valueOfCall, questionsOf, boardCall, storesIn}
 use Rattle.pmc330_model.specs.Logbook.{Event, wasReset, Running, idle, since, isIdle, Logbook, readEvent, happens, logbookQuestions, logged, loggedValue, loggedAnswer, storesMade, ticksPass}
 use Rattle.pmc330_model.specs.Questions.{isAllowed, isValid, hasChannels, hasInterval, startQuestions, resultingWord, callQuestions}
@@ -19,7 +20,7 @@ use Rattle.pmc330_model.specs.declared.Board.{Board}
 use Rattle.pmc330_model.proofs.Agreement.{bookOf, Timed, Armed, CycleAgrees, Agrees, Related}
 use Rattle.pmc330_model.proofs.Memory.{memory-read, memory-reset}
 use Rattle.pmc330_model.proofs.QuestionLaws.{first-met, rest-met}
-use Rattle.pmc330_model.proofs.Reading.{words-agree}
+use Rattle.pmc330_model.proofs.Reading.{words-agree, look-agrees}
 use Rattle.pmc330_model.proofs.Related.{unchanged, both}
 use Rattle.pmc330_model.proofs.Ticks.{ticks-agree}
 use Rattle.pmc330_model.proofs.Triggers.{trigger-agrees}
@@ -122,6 +123,8 @@ module _ (b : Board) (tick : ℕ) (cycle : Running) (events : List Event) (agree
               running = refl;
             };
       }
+  happens-agrees (look slot) e = unchanged b tick cycle events agrees
+  happens-agrees (clear slot) e = read-agrees (mailbox slot)
 
   pub questions-same : (call : Call) → questionsOf b call ≡ logbookQuestions (bookOf b tick cycle events) call
   questions-same call =
@@ -133,18 +136,23 @@ module _ (b : Board) (tick : ℕ) (cycle : Running) (events : List Event) (agree
       let moved = ticks-agree n b tick cycle events agrees in
       rw (ap (λ (l : Logbook). storesMade (l .events)) (moved .same)) (omega (arith, moved .count))
 
-  value-same : (call : Call) → valueOfCall b call ≡ loggedValue (bookOf b tick cycle events) call
-  unfolding valueOfCall loggedValue
-  value-same (read width offset) = ap (readBytes width offset) (words-agree b tick cycle events agrees offset)
-  value-same (write width offset value) = refl
-  value-same (input channel microvolts) = refl
-  value-same (advance ticks) = stores-same ticks
-  value-same trigger = refl
-  value-same reset = refl
+  -- the value of an accepted call; a look's slot is below 32 then
+  value-same :
+      (call : Call) → firstNo (logbookQuestions (bookOf b tick cycle events) call) ≡ 0
+      → valueOfCall b call ≡ loggedValue (bookOf b tick cycle events) call
+  unfolding valueOfCall loggedValue callQuestions
+  value-same (read width offset) met = ap (readBytes width offset) (words-agree b tick cycle events agrees offset)
+  value-same (write width offset value) met = refl
+  value-same (input channel microvolts) met = refl
+  value-same (advance ticks) met = stores-same ticks
+  value-same trigger met = refl
+  value-same reset met = refl
+  value-same (look slot) met = look-agrees b tick cycle events agrees slot (omega (arith, leb-true slot 31 (first-met 21 _ _ met)))
+  value-same (clear slot) met = refl
 
   pub answer-same : (call : Call) → boardCall b call .answer ≡ loggedAnswer (bookOf b tick cycle events) call
   unfolding boardCall
-  answer-same call = ap₂ answered (questions-same call) (value-same call)
+  answer-same call = rw (questions-same call) (same-if-met (logbookQuestions (bookOf b tick cycle events) call) _ _ (value-same call))
 
   pub call-agrees : (call : Call) → Related (logged (bookOf b tick cycle events) call) (boardCall b call .board)
   unfolding logged boardCall

@@ -1,5 +1,5 @@
 -- Small laws on tests.
-use mathlib.Core.Bool.{Bool, true, false, not, _&&_, _||_, false≢true}
+use mathlib.Core.Bool.{Bool, true, false, cond, not, _&&_, _||_, false≢true}
 use mathlib.Core.Logic.{_⊎_, inl, inr}
 use mathlib.Core.Path.{_≡_, refl, sym, _∙_}
 use Prim.Native.Nat.{ℕ, _<_, _≤_}
@@ -39,3 +39,8 @@ and-right false b e = absurd (false≢true e)
 pub implied : (a b : Bool) → (not a || b) ≡ true → a ≡ true → b ≡ true
 implied true b e h = e
 implied false b e h = absurd (false≢true h)
+
+-- the same in both branches
+pub either-way : {A : Type 0} (t : Bool) (x : A) → cond t x x ≡ x
+either-way true x = refl
+either-way false x = refl

@@ -9,7 +9,7 @@ use Rattle.analog.specs.Answers.{firstNo}
 use Rattle.pmc330_model.specs.Map.{scanField, isTimerEnabled, Register, unmapped, interrupt, control, prescaler, timer, channels, startConvert, newData, missedData, gain, mailbox, classOf, triggerField}
 use Rattle.pmc330_model.specs.Words.{writtenByte, writtenWord, withWord, isStop, isStart}
 use Rattle.pmc330_model.specs.Schedule.{passLength, interval, isUniform, isBurst, isSingle, isTimed, isTriggerOnly, burstDelay}
-use Rattle.pmc330_model.specs.Calls.{Call, read, write, input, advance, trigger, reset}
+use Rattle.pmc330_model.specs.Calls.{Call, read, write, input, advance, trigger, reset, look, clear}
 use Rattle.pmc330_model.specs.Questions.{hasChannels, hasInterval}
 use Rattle.pmc330_model.specs.Board.{idleCycle, restarted, wordWritten, withCycle, newBoard, clearedBoard, stored, leadAfter, begun, storedInTime, elapsed, isStoreDue, isBeginningDue, storedIfDue, ticked, advanced, started, triggered, afterRead, afterWrite, afterCall, boardCall, questionsOf, boardFrom, boardAfter}
 use Rattle.pmc330_model.specs.declared.Registers.{Registers}
@@ -197,6 +197,8 @@ call-bounded b (input channel microvolts) h = record { registers = h .registers;
 call-bounded b (advance ticks) h = advanced-bounded ticks b h
 call-bounded b trigger h = triggered-bounded b h
 call-bounded b reset h = cleared-bounded b
+call-bounded b (look slot) h = h
+call-bounded b (clear slot) h = read-bounded (mailbox slot) b h
 
 calls-bounded : (calls : List Call) (b : Board) → Bounded b → Bounded (boardFrom b calls)
 unfolding boardFrom boardCall

@@ -8,6 +8,7 @@ pub mod Begins
 pub mod Stores
 pub mod TickBegins
 pub mod Ticks
+pub mod Replies
 pub mod Reading
 pub mod Scheduled
 pub mod Related
@@ -16,6 +17,7 @@ pub mod Triggers
 pub mod Writes
 pub mod CallsAgree
 pub mod Theorems
+pub mod Looks
 pub mod Jumps
 pub mod Countdowns
 pub mod NextStores

@@ -9,7 +9,7 @@ use Rattle.analog.specs.Answers.{Question, question, firstNo}
 use Rattle.analog.proofs.AnswerLaws.{numbered}
 use Rattle.pmc330_model.specs.Map.{Register, unmapped, interrupt, control, prescaler, timer, channels, startConvert, newData, missedData, gain, mailbox, classOf}
 use Rattle.pmc330_model.specs.Words.{withWord, bitOf, isStart}
-use Rattle.pmc330_model.specs.Calls.{Call, read, write, input, advance, trigger, reset}
+use Rattle.pmc330_model.specs.Calls.{Call, read, write, input, advance, trigger, reset, look, clear}
 use Rattle.pmc330_model.specs.Questions.{isAllowed, startQuestions, wordQuestions, resultingWord, callQuestions}
 use Rattle.pmc330_model.specs.declared.Registers.{Registers}
 
@@ -26,6 +26,8 @@ questions-numbered r gains idle (input channel microvolts) = refl
 questions-numbered r gains idle (advance ticks) = refl
 questions-numbered r gains idle trigger = refl
 questions-numbered r gains idle reset = refl
+questions-numbered r gains idle (look slot) = refl
+questions-numbered r gains idle (clear slot) = refl
 
 -- where no question meets a no, each is met
 pub first-met : (n : ℕ) (met : Bool) (later : List Question) → firstNo (question (suc n) met ∷ later) ≡ 0 → met ≡ true

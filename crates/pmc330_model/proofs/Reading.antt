@@ -15,8 +15,8 @@ use Rattle.analog.specs.Answers.{firstNo, answered, valueOf, isAccepted}
 use Rattle.analog.specs.declared.Answer.{Answer}
 use Rattle.analog.specs.declared.Answer.the-variants.{Accepted}
 use Rattle.pmc330_model.specs.Map.{Register, unmapped, interrupt, control, prescaler, timer, channels, startConvert, newData, missedData, gain, mailbox, lowWords, wordAt, classOf, isMapped, isReadable}
-use Rattle.pmc330_model.specs.Words.{joined, toBit, bitOf, heldWord, readWord}
-use Rattle.pmc330_model.specs.Questions.{callQuestions}
+use Rattle.pmc330_model.specs.Words.{joined, toBit, bitOf, heldWord, readWord, lookValue}
+use Rattle.pmc330_model.specs.Questions.{readQuestions, callQuestions}
 use Rattle.pmc330_model.specs.Board.{viewOf, valueOfCall, boardCall, readCall}
 use Rattle.pmc330_model.specs.Logbook.{Event, Running, lastStore, storesSince, interrupted, logbookView}
 use Rattle.pmc330_model.specs.Sentences.{ReadsBit, Sentence3}
@@ -115,13 +115,13 @@ unfolding classOf
 placed offset = placed-either (ltb (offset % 4) 2) _ _ (λ live. placed-word (offset / 4)) tt
 
 -- word n of the map is this register, and it may be read
-record ReadAt (n : ℕ) (register : Register) : Type 0 where
-  low : n < 64
-  is : wordAt n ≡ register
-  mapped : isMapped register ≡ true
-  readable : isReadable register ≡ true
+pub record ReadAt (n : ℕ) (register : Register) : Type 0 where
+  pub low : n < 64
+  pub is : wordAt n ≡ register
+  pub mapped : isMapped register ≡ true
+  pub readable : isReadable register ≡ true
 
-mailbox-at : (s : ℕ) → s < 32 → ReadAt (0x20 + s) (mailbox s)
+pub mailbox-at : (s : ℕ) → s < 32 → ReadAt (0x20 + s) (mailbox s)
 unfolding wordAt
 mailbox-at s h = record { low = omega arith; is = word; mapped = refl; readable = refl }
   where
@@ -157,23 +157,31 @@ interrupt-at : ReadAt 0 interrupt
 unfolding wordAt
 interrupt-at = record { low = omega arith; is = refl; mapped = refl; readable = refl }
 
--- the register at a word's own offset is that of the word
-class-is : (n offset : ℕ) → offset ≡ 4 * n → classOf offset ≡ wordAt n
+-- the register at either live byte of a word is that of the word
+pub class-is : (n byte offset : ℕ) → byte < 2 → offset ≡ 4 * n + byte → classOf offset ≡ wordAt n
 unfolding classOf
-class-is n offset e =
-    let first : offset % 4 ≡ 0 = omega arith in
+class-is n byte offset live e =
+    let first : offset % 4 ≡ byte = omega arith in
     let word : offset / 4 ≡ n = omega arith in
-    rw (first, word)
+    rw (first, word, lt-ltb byte 2 live)
 
--- a 16-bit read there is accepted, and gives the whole word
+-- a 16-bit read of a word meets every question
+pub word-met :
+    (n offset : ℕ) (register : Register) → offset ≡ 4 * n → ReadAt n register
+    → firstNo (readQuestions 16 offset (classOf offset)) ≡ 0
+unfolding firstNo
+word-met n offset register e place =
+    rw (lt-ltb offset 256 (omega arith), eq-eqb (offset % 2) 0 (omega arith), class-is n 0 offset (omega arith) (omega arith), place .is, place .mapped, place .readable)
+
+-- so it is accepted, and gives the whole word
 word-read :
     (b : Board) (n offset : ℕ) (register : Register) → offset ≡ 4 * n → ReadAt n register
     → readWord (viewOf b) register < 65536
     → readCall b 16 offset .answer ≡ Accepted (readWord (viewOf b) register)
-unfolding boardCall callQuestions answered firstNo valueOfCall
+unfolding boardCall callQuestions answered valueOfCall
 word-read b n offset register e place small =
     let first : offset % 4 ≡ 0 = omega arith in
-    rw (lt-ltb offset 256 (omega arith), eq-eqb (offset % 2) 0 (omega arith), class-is n offset e, place .is, place .mapped, place .readable, first)
+    rw (word-met n offset register e place, class-is n 0 offset (omega arith) (omega arith), place .is, first)
     (ap Accepted (omega arith))
 
 -- ---- bits
@@ -251,6 +259,15 @@ module _ (b : Board) (tick : ℕ) (cycle : Running) (events : List Event) where
         → readWord (viewOf b) (classOf offset) ≡ readWord (logbookView (bookOf b tick cycle events)) (classOf offset)
     words-agree offset = same-word (classOf offset) (placed offset)
 
+    -- a look at a slot shows what the events say
+    pub look-agrees : (slot : ℕ) → slot < 32 → lookValue (viewOf b) slot ≡ lookValue (logbookView (bookOf b tick cycle events)) slot
+    look-agrees slot h =
+        simp (
+          agrees .memory .code slot h,
+          reaches-same 1 _ _ (omega arith) (agrees .memory .count slot h),
+          reaches-same 2 _ _ (omega arith) (agrees .memory .count slot h),
+        )
+
     -- a 16-bit read of the board gives the logbook's word
     logged-read :
         (n offset : ℕ) (register : Register) → offset ≡ 4 * n → ReadAt n register → logged register < 65536
@@ -259,7 +276,7 @@ module _ (b : Board) (tick : ℕ) (cycle : Running) (events : List Event) where
         word-read b n offset register e place (rw same small) ∙ ap Accepted same
       where
         same : readWord (viewOf b) register ≡ logged register
-        same = rw (class-is n offset e, place .is) at (words-agree offset)
+        same = rw (class-is n 0 offset (omega arith) (omega arith), place .is) at (words-agree offset)
 
     -- of New or Missed Data, whose two words begin at word `first`, it gives the slot's bit
     flag-read :

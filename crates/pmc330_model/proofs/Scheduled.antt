@@ -14,7 +14,7 @@ use Rattle.analog.proofs.AnswerLaws.{none-first, some-first}
 use Rattle.pmc330_model.specs.Map.{Register, unmapped, interrupt, control, prescaler, timer, channels, startConvert, newData, missedData, gain, mailbox, classOf, triggerField, scanField}
 use Rattle.pmc330_model.specs.Words.{isRelease, isStop, isStart}
 use Rattle.pmc330_model.specs.Schedule.{isBurst, isSingle, isTimed, isTriggerOnly, channelOf, slotOf, endsPass, codeAt, formattedBy, isInterrupting, beginsAt, isScheduled, Due, none, conversion, orElse, firstFrom}
-use Rattle.pmc330_model.specs.Calls.{Call, read, write, input, advance, trigger, reset}
+use Rattle.pmc330_model.specs.Calls.{Call, read, write, input, advance, trigger, reset, look, clear}
 use Rattle.pmc330_model.specs.Questions.{callQuestions, resultingWord, hasChannels, hasInterval}
 use Rattle.pmc330_model.specs.Logbook.{Event, Running, idle, since, release, cycleStart, store, Logbook, withHappened, begins, stores, storesInTime, dueAfter, ifDue, storesDue, beginsDue, tickPasses, ticksPass, starts, isTaken, takes, triggeredIn, triggerComes, readEvent, writes, happens, isIdle, logbookQuestions, logged}
 use Rattle.pmc330_model.specs.Sentences.{InCycle, mayStore, storesAmong, Scheduled, isTimeless, EveryTick}
@@ -349,6 +349,8 @@ module _ (P : Running → Type 0) (stopped : P idle) where
   call-cycle l trigger met h fresh more =
       triggered (λ after. P (after .cycle)) l h (λ e. start-cycle l (fresh (ap isIdle e))) (λ T triggers e o f t. more T triggers e)
   call-cycle l reset met h fresh more = stopped
+  call-cycle l (look slot) met h fresh more = h
+  call-cycle l (clear slot) met h fresh more = h
 
 -- a cycle that started at a tick, and one that runs since T
 abbrev StartedAt : (tick : ℕ) → Running → Type 0
@@ -428,6 +430,8 @@ other-made l (input channel microvolts) other = refl
 other-made l (advance ticks) other = never true refl other
 other-made l trigger other = trigger-made l other
 other-made l reset other = refl
+other-made l (look slot) other = refl
+other-made l (clear slot) other = refl
 
 -- external trigger only is scan 101, and no timed mode
 only-untimed : (r : Registers) → isTriggerOnly r ≡ true → isTimed r ≡ false
@@ -458,6 +462,8 @@ timeless-tick l (input channel microvolts) h = refl
 timeless-tick l (advance ticks) h = never false h refl
 timeless-tick l trigger h = trigger-tick l
 timeless-tick l reset h = never false h refl
+timeless-tick l (look slot) h = refl
+timeless-tick l (clear slot) h = refl
 
 ticks-passed : (n : ℕ) (l : Logbook) → ticksPass n l .tick ≡ l .tick + n
 unfolding ticksPass

@@ -80,7 +80,7 @@ related-calls [] l b h = h
 related-calls (call ∷ calls) l b h = related-calls calls (logged l call) (boardCall b call .board) (related-call l b h call)
 
 -- the board and the logbook that a list ends with
-after : (range : ℕ) (calls : List Call) → Related (logbookOf range calls) (boardAfter range calls)
+pub after : (range : ℕ) (calls : List Call) → Related (logbookOf range calls) (boardAfter range calls)
 after range calls = related-calls calls (newLogbook range) (newBoard range) (opening range)
 
 pub sentence3 : EveryList3

@@ -9,14 +9,15 @@ use lib.ListN.{getD, set, replicate}
 use Rattle.analog.specs.Answers.{Question, question, firstNo, answered}
 use Rattle.analog.specs.declared.Answer.{Answer}
 use Rattle.pmc330_model.specs.Map.{Register, ifMailbox, classOf, triggerField}
-use Rattle.pmc330_model.specs.Words.{View, readWord, readBytes, withWord, gainsWith, isRelease, isStop, isStart}
+use Rattle.pmc330_model.specs.Words.{View, readWord, lookValue, readBytes, withWord, gainsWith, isRelease, isStop, isStart}
 use Rattle.pmc330_model.specs.Schedule.{passLength, interval, isDifferential, isUniform, isBurst, isSingle, isTimed, isTriggerOnly, codeAt, formattedBy, isInterrupting, burstDelay}
-use Rattle.pmc330_model.specs.Calls.{Call, read, write, input, advance, trigger, reset}
+use Rattle.pmc330_model.specs.Calls.{Call, read, write, input, advance, trigger, reset, look, clear}
 use Rattle.pmc330_model.specs.Questions.{callQuestions, resultingWord, hasChannels, hasInterval}
 use Rattle.pmc330_model.specs.declared.Registers.{Registers}
 use Rattle.pmc330_model.specs.declared.Cycle.{Cycle}
 use Rattle.pmc330_model.specs.declared.Board.{Board}
 use Rattle.pmc330_model.specs.declared.Reply.{Reply}
+use Rattle.pmc330_model.specs.declared.Look.{Look}
 
 -- no cycle runs
 abbrev pub idleCycle : Cycle
@@ -225,9 +226,13 @@ triggered b =
     (cond (b .cycle .running) (cond taken (triggerTaken b) b) (cond starts (started b) b))
     b
 
--- "A mailbox read of any width clears that slot's New and Missed bits."
-abbrev pub slotCleared : (slot : ℕ) → Board → Board
-slotCleared slot b =
+-- 02, A2: "Divide the mailbox read into a look, which gives code, New and Missed and changes nothing, and a clear, which drops
+-- both bits."
+abbrev pub afterLook : (slot : ℕ) → Board → Board
+afterLook slot b = b
+
+abbrev pub afterClear : (slot : ℕ) → Board → Board
+afterClear slot b =
     record {
       range = b .range;
       inputs = b .inputs;
@@ -240,8 +245,9 @@ slotCleared slot b =
       cycle = b .cycle;
     }
 
+-- "A mailbox read of any width clears that slot's New and Missed bits": it "leaves the board as the look and then the clear do"
 abbrev pub afterRead : Register → Board → Board
-afterRead register b = ifMailbox register (λ slot. slotCleared slot b) b
+afterRead register b = ifMailbox register (λ slot. afterClear slot (afterLook slot b)) b
 
 -- an accepted write of a word, before the start that it may make
 abbrev pub wordWritten : Register → (word : ℕ) → Board → Board
@@ -275,7 +281,8 @@ viewOf b =
       pending = b .pending;
     }
 
--- the board after an accepted call, and the call's value: "the read value, for an advance the number of stores made in it, .. else 0"
+-- the board after an accepted call, and the call's value: "the read value, for an advance the number of stores made in it, .. else 0";
+-- a look's is by 02, A2
 unfoldable pub afterCall : Board → Call → Board
 afterCall b (read width offset) = afterRead (classOf offset) b
 afterCall b (write width offset value) =
@@ -296,6 +303,8 @@ afterCall b (advance ticks) = advanced ticks b
 afterCall b trigger = triggered b
 -- "Reset restores this but keeps range and inputs."
 afterCall b reset = clearedBoard (b .range) (b .inputs)
+afterCall b (look slot) = afterLook slot b
+afterCall b (clear slot) = afterClear slot b
 
 unfoldable pub valueOfCall : Board → Call → ℕ
 valueOfCall b (read width offset) = readBytes width offset (readWord (viewOf b) (classOf offset))
@@ -304,6 +313,8 @@ valueOfCall b (input channel microvolts) = 0
 valueOfCall b (advance ticks) = storesIn ticks b
 valueOfCall b trigger = 0
 valueOfCall b reset = 0
+valueOfCall b (look slot) = lookValue (viewOf b) slot
+valueOfCall b (clear slot) = 0
 
 -- the questions of a call on this board
 abbrev pub questionsOf : Board → Call → List Question
@@ -336,6 +347,13 @@ triggerCall b = boardCall b trigger
 
 abbrev pub resetCall : Board → Reply
 resetCall b = boardCall b reset
+
+-- a look answers in a record of its own
+abbrev pub lookCall : Board → (slot : ℕ) → Look
+lookCall b slot = record { board = boardCall b (look slot) .board; answer = boardCall b (look slot) .answer }
+
+abbrev pub clearCall : Board → (slot : ℕ) → Reply
+clearCall b slot = boardCall b (clear slot)
 
 -- 14. "Is a new board's range 0 to 3? No: 14, and the board returned is a new one of range 0."
 abbrev pub newCall : (range : ℕ) → Reply

@@ -1,4 +1,4 @@
--- The calls of sentence 3's list, with their arguments.
+-- The calls of sentence 3's list, with their arguments: 01's, and look and clear of request A2.
 use Prim.Native.Nat.{ℕ}
 use lib.IntN.{ℤ}
 
@@ -8,3 +8,4 @@ pub data Call : Type 0 where
   input : (channel : ℕ) (microvolts : ℤ) → Call
   advance : (ticks : ℕ) → Call
   trigger reset : Call
+  look clear : (slot : ℕ) → Call

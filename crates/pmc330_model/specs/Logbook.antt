@@ -9,9 +9,9 @@ use lib.ListN.{set, replicate, length}
 use Rattle.analog.specs.Answers.{Question, firstNo, answered}
 use Rattle.analog.specs.declared.Answer.{Answer}
 use Rattle.pmc330_model.specs.Map.{Register, ifMailbox, classOf, triggerField}
-use Rattle.pmc330_model.specs.Words.{View, readWord, readBytes, withWord, gainsWith, isRelease, isStop, isStart}
+use Rattle.pmc330_model.specs.Words.{View, readWord, lookValue, readBytes, withWord, gainsWith, isRelease, isStop, isStart}
 use Rattle.pmc330_model.specs.Schedule.{isBurst, isSingle, isTimed, isTriggerOnly, channelOf, slotOf, endsPass, codeAt, formattedBy, isInterrupting, beginsAt, isScheduled, Due, none, conversion, firstFrom}
-use Rattle.pmc330_model.specs.Calls.{Call, read, write, input, advance, trigger, reset}
+use Rattle.pmc330_model.specs.Calls.{Call, read, write, input, advance, trigger, reset, look, clear}
 use Rattle.pmc330_model.specs.Questions.{callQuestions, resultingWord, hasChannels, hasInterval}
 use Rattle.pmc330_model.specs.declared.Registers.{Registers}
 
@@ -91,7 +91,7 @@ storesMade (release ∷ earlier) = storesMade earlier
 storesMade (wasRead s ∷ earlier) = storesMade earlier
 storesMade (store s code interrupts ∷ earlier) = suc (storesMade earlier)
 
--- what a board with these events shows through its registers
+-- what a board with these events shows through its registers, and to a look
 abbrev pub logbookView : Logbook → View
 logbookView l =
     record {
@@ -246,6 +246,9 @@ happens l (advance ticks) = ticksPass ticks l
 happens l trigger = triggerComes l
 -- "Reset: it opens anew, keeping range, inputs and earlier events."
 happens l reset = opened (l .range) (l .inputs) (l .events)
+-- 02, A2: a look "changes nothing", and is no event; "a clear counts as a read of that slot"
+happens l (look slot) = l
+happens l (clear slot) = withHappened l (l .tick) (l .taken) (l .cycle) (wasRead slot ∷ l .events)
 
 -- "Questions are answered from what it holds."
 abbrev pub isIdle : Running → Bool
@@ -267,6 +270,8 @@ loggedValue l (input channel microvolts) = 0
 loggedValue l (advance ticks) = storesMade (ticksPass ticks l .events) - storesMade (l .events)
 loggedValue l trigger = 0
 loggedValue l reset = 0
+loggedValue l (look slot) = lookValue (logbookView l) slot
+loggedValue l (clear slot) = 0
 
 abbrev pub loggedAnswer : Logbook → Call → Answer
 loggedAnswer l call = answered (logbookQuestions l call) (loggedValue l call)

@@ -1,4 +1,4 @@
--- Document 01, "Questions asked of a call, in order".
+-- Document 01, "Questions asked of a call, in order", and question 22 of document 02.
 -- They are asked of the registers, the gains and whether the board is idle, so that the board and the logbook can both answer them.
 use Prim.Native.Nat.{ℕ, _/_, _%_, _^_}
 use mathlib.Core.Bool.{Bool, true, false, cond, not, _&&_, _||_}
@@ -10,7 +10,7 @@ use Rattle.analog.specs.Answers.{Question, question}
 use Rattle.pmc330_model.specs.Map.{Register, classOf, isMapped, isReadable, isWritable, ifInterrupt, ifControl, ifChannels, ifStartConvert, triggerField, acquisitionField, scanField, isTimerEnabled, interruptField}
 use Rattle.pmc330_model.specs.Words.{heldWord, writtenWord, withWord, bitOf, isStart}
 use Rattle.pmc330_model.specs.Schedule.{interval, isDifferential, isUniform}
-use Rattle.pmc330_model.specs.Calls.{Call, read, write, input, advance, trigger, reset}
+use Rattle.pmc330_model.specs.Calls.{Call, read, write, input, advance, trigger, reset, look, clear}
 use Rattle.pmc330_model.specs.declared.Registers.{Registers}
 
 -- 1. "Is the width 8, 16 or 32?"
@@ -101,6 +101,10 @@ isInput microvolts = leZ (negℤ (pos 35_000_000)) microvolts && leZ microvolts 
 abbrev pub inputQuestions : (channel : ℕ) → (microvolts : ℤ) → List Question
 inputQuestions channel microvolts = question 11 (leb channel 31) ∷ question 12 (isInput microvolts) ∷ []
 
+-- 02, A2: "Checks: 22, a slot above 31, looked at first." A look and a clear are asked nothing else, also while a cycle runs
+abbrev pub slotQuestions : (slot : ℕ) → List Question
+slotQuestions slot = question 22 (leb slot 31) ∷ []
+
 -- the questions of each call, in order; a trigger and a reset are asked none
 unfoldable pub callQuestions : Registers → (gains : List ℕ) → (idle : Bool) → Call → List Question
 callQuestions r gains idle (read width offset) = readQuestions width offset (classOf offset)
@@ -111,3 +115,5 @@ callQuestions r gains idle (input channel microvolts) = inputQuestions channel m
 callQuestions r gains idle (advance ticks) = question 13 (leb ticks 16_777_216) ∷ []
 callQuestions r gains idle trigger = []
 callQuestions r gains idle reset = []
+callQuestions r gains idle (look slot) = slotQuestions slot
+callQuestions r gains idle (clear slot) = slotQuestions slot

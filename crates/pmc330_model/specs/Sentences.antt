@@ -1,6 +1,7 @@
--- The sentences of the data sheet. Each `Every..` is proved in proofs/Theorems.antt, those of the next store in proofs/NextStores.antt.
+-- The sentences of the data sheet. Each `Every..` is proved in proofs/Theorems.antt, those of the next store in
+-- proofs/NextStores.antt, those of request A2 in proofs/Looks.antt.
 use Prim.Native.Nat.{ℕ, suc, _+_, _-_, _*_, _/_, _%_, _≤_, _<_}
-use mathlib.Core.Bool.{Bool, true, false, not, _&&_}
+use mathlib.Core.Bool.{Bool, true, false, cond, not, _&&_}
 use mathlib.Core.List.{List, [], _∷_}
 use mathlib.Core.Path.{_≡_}
 use lib.Dec.{leb}
@@ -10,11 +11,11 @@ use Rattle.analog.specs.Sentences.{AnsweredBy}
 use Rattle.analog.specs.Sums.{sumOf}
 use Rattle.analog.specs.declared.Answer.the-variants.{Accepted, Refused}
 use Rattle.pmc330_model.specs.Map.{triggerField}
-use Rattle.pmc330_model.specs.Words.{bitOf}
+use Rattle.pmc330_model.specs.Words.{bitOf, readBytes}
 use Rattle.pmc330_model.specs.Schedule.{isTimed, isTriggerOnly, channelOf, slotOf, endsPass, codeAt, formattedBy, isInterrupting, beginsAt, isScheduled, conversion}
-use Rattle.pmc330_model.specs.Calls.{Call, read, write, input, advance, trigger, reset}
+use Rattle.pmc330_model.specs.Calls.{Call, read, write, input, advance, trigger, reset, look, clear}
 use Rattle.pmc330_model.specs.Questions.{callQuestions}
-use Rattle.pmc330_model.specs.Board.{boardCall, newCall, newBoard, readCall, advanceCall, requestLine, nextStore, boardAfter, answersOf}
+use Rattle.pmc330_model.specs.Board.{boardCall, newCall, newBoard, readCall, advanceCall, lookCall, clearCall, viewOf, requestLine, nextStore, boardAfter, answersOf}
 use Rattle.pmc330_model.specs.Logbook.{Event, wasReset, cycleStart, release, wasRead, store, idle, since, isIdle, Logbook, lastStore, storesSince, interrupted, dueAfter, tickPasses, ticksPass, logged, logbookOf, logbookAnswers}
 use Rattle.pmc330_model.specs.declared.Registers.{Registers}
 use Rattle.pmc330_model.specs.declared.Board.{Board}
@@ -27,12 +28,12 @@ pub record Sentence1 (questions : List Question) (b : Board) (call : Call) : Typ
   pub answer : AnsweredBy questions (boardCall b call .answer)
   pub board : allMet questions ≡ false → boardCall b call .board ≡ b
 
--- on every board: 01's questions, asked of its registers, its gains and whether a cycle runs
+-- on every board: 01's questions and 02's, asked of its registers, its gains and whether a cycle runs
 abbrev pub EveryCall1 : Type 0
 EveryCall1 =
     (b : Board) (call : Call) → Sentence1 (callQuestions (b .registers) (b .gains) (not (b .cycle .running)) call) b call
 
--- after every list of calls: 01's questions, asked of what the logbook of the list holds, so that "idle" is 01's
+-- after every list of calls: 01's questions and 02's, asked of what the logbook of the list holds, so that "idle" is 01's
 abbrev pub AfterList1 : (b : Board) → Logbook → Call → Type 0
 AfterList1 b l call = Sentence1 (callQuestions (l .registers) (l .gains) (isIdle (l .cycle)) call) b call
 
@@ -52,7 +53,8 @@ EveryNew1 = (range : ℕ) → NewBoard1 range
 
 -- ---- Sentence 2
 
--- number and value of every call of a list are those that the logbook defines, so that what a driver sees is 01's alone
+-- number and value of every call of a list are those that the logbook defines, so that what a driver or a panel sees is 01's
+-- and 02's alone
 abbrev pub EveryAnswer : Type 0
 EveryAnswer = (range : ℕ) → range < 4 → (calls : List Call) → answersOf range calls ≡ logbookAnswers range calls
 
@@ -116,6 +118,8 @@ mayStore r (input channel microvolts) = false
 mayStore r (advance ticks) = true
 mayStore r trigger = isTriggerOnly r
 mayStore r reset = false
+mayStore r (look slot) = false
+mayStore r (clear slot) = false
 
 -- the stores among the events
 unfoldable pub storesAmong : List Event → List Event
@@ -164,6 +168,8 @@ isTimeless (input channel microvolts) = true
 isTimeless (advance ticks) = false
 isTimeless trigger = true
 isTimeless reset = false
+isTimeless (look slot) = true
+isTimeless (clear slot) = true
 
 -- "An accepted advance of n counts as n ticks, a refused call as none." These are the ticks one by one, with their stores
 pub record TicksCounted (l : Logbook) : Type 0 where
@@ -231,3 +237,41 @@ abbrev pub EveryLastStore : Type 0
 EveryLastStore =
     (range : ℕ) → range < 4 → (calls : List Call) → nextStore (boardAfter range calls) ≡ 0
     → (ns : List ℕ) → valueOfAdvances (boardAfter range calls) ns ≡ 0
+
+-- ---- Request A2
+
+-- A look, at any slot of any board, "changes nothing"
+abbrev pub EveryLook : Type 0
+EveryLook = (b : Board) (slot : ℕ) → lookCall b slot .board ≡ b
+
+-- After every list of calls it gives "code, New and Missed", as the logbook's events say: those of sentence 3
+abbrev pub EveryLookShown : Type 0
+EveryLookShown =
+    (range : ℕ) → range < 4 → (calls : List Call) (slot : ℕ) → slot < 32
+    → lookCall (boardAfter range calls) slot .answer
+    ≡ Accepted (lastStore slot (logbookOf range calls .events)
+    + cond (leb 1 (storesSince slot (logbookOf range calls .events))) 65_536 0
+    + cond (leb 2 (storesSince slot (logbookOf range calls .events))) 131_072 0)
+
+-- "Both calls join sentence 3's list, where a clear counts as a read of that slot"; a look is no event
+pub record SlotLogged (l : Logbook) (slot : ℕ) : Type 0 where
+  pub looked : logged l (look slot) ≡ l
+  pub cleared : slot < 32 → logged l (clear slot) ≡ logged l (read 16 (0x80 + 4 * slot))
+
+abbrev pub EverySlotLogged : Type 0
+EverySlotLogged = (l : Logbook) (slot : ℕ) → SlotLogged l slot
+
+-- "The register read leaves the board as the look and then the clear do, and its value stays 01's": the bytes of the code that
+-- its width covers
+pub record LookAndClear (b : Board) (width offset slot : ℕ) : Type 0 where
+  pub looked : isAccepted (lookCall b slot .answer) ≡ true
+  pub cleared : isAccepted (clearCall (lookCall b slot .board) slot .answer) ≡ true
+  pub board : readCall b width offset .board ≡ clearCall (lookCall b slot .board) slot .board
+  pub value : readCall b width offset .answer ≡ Accepted (readBytes width offset (viewOf b .code slot))
+
+-- every accepted mailbox read: of any board, of any width, at either live byte
+abbrev pub EveryMailboxRead : Type 0
+EveryMailboxRead =
+    (b : Board) (width slot byte : ℕ) → slot < 32 → byte < 2
+    → isAccepted (readCall b width (0x80 + 4 * slot + byte) .answer) ≡ true
+    → LookAndClear b width (0x80 + 4 * slot + byte) slot

@@ -18,7 +18,7 @@ toBit b = cond b 1 0
 abbrev pub bitOf : (place word : ℕ) → Bool
 bitOf place word = eqb (word / 2 ^ place % 2) 1
 
--- what can be seen of a board through its registers
+-- what can be seen of a board through its registers, and by a look
 pub record View : Type 0 where
   pub registers : Registers
   pub gains : List ℕ
@@ -61,6 +61,10 @@ readWord v (newData half) = joined 2 (λ i. toBit (v .isNew (16 * half + i))) 16
 readWord v (missedData half) = joined 2 (λ i. toBit (v .isMissed (16 * half + i))) 16
 readWord v (gain group) = heldWord (v .registers) (v .gains) (gain group)
 readWord v (mailbox slot) = v .code slot
+
+-- 02, A2: "A look's value is the code, plus 65536 if New, plus 131072 if Missed."
+abbrev pub lookValue : View → (slot : ℕ) → ℕ
+lookValue v slot = v .code slot + cond (v .isNew slot) 65_536 0 + cond (v .isMissed slot) 131_072 0
 
 -- "A read gives the live bytes that its width covers, from its first byte on; missing ones are 0."
 abbrev pub readBytes : (width offset word : ℕ) → ℕ

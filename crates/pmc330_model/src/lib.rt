@@ -35,7 +35,7 @@ pub struct Board {
     pub inputs: [i32; 32],
     pub gains: [u8; 32],
     pub codes: [u16; 32],
-    // stores since the last read, cycle start or reset, standing still at 2: New from 1 on, Missed at 2
+    // stores since the last read, clear, cycle start or reset, standing still at 2: New from 1 on, Missed at 2
     pub unread: [u8; 32],
     pub pending: bool,
     pub registers: Registers,
@@ -46,6 +46,12 @@ pub struct Board {
 
 // What a call hands back.
 pub struct Reply {
+    pub board: Board,
+    pub answer: Answer,
+}
+
+// What a look hands back: a record of its own, to which request A11 adds the age.
+pub struct Look {
     pub board: Board,
     pub answer: Answer,
 }

@@ -24,17 +24,19 @@ use Rattle.trace.specs.declared.fields.Checked.the-variants.{Calls}
 
 -- what has no row, and a trigger and a reset, have no body
 pub length-none :
-    (tag : ℕ) → (tag ≡ 0 → ⊥) → (tag ≡ 1 → ⊥) → (tag ≡ 2 → ⊥) → (tag ≡ 3 → ⊥) → (tag ≡ 4 → ⊥) → lengthOf tag ≡ 0
+    (tag : ℕ) → (tag ≡ 0 → ⊥) → (tag ≡ 1 → ⊥) → (tag ≡ 2 → ⊥) → (tag ≡ 3 → ⊥) → (tag ≡ 4 → ⊥) → (tag ≡ 7 → ⊥) → (tag ≡ 8 → ⊥)
+    → lengthOf tag ≡ 0
 unfolding lengthOf lengthIn
-length-none tag n₀ n₁ n₂ n₃ n₄ =
-    rw (ne-eqb tag 0 n₀, ne-eqb tag 1 n₁, ne-eqb tag 2 n₂, ne-eqb tag 3 n₃, ne-eqb tag 4 n₄) (go (eqb tag 5) (eqb tag 6))
+length-none tag n₀ n₁ n₂ n₃ n₄ n₇ n₈ =
+    rw (ne-eqb tag 0 n₀, ne-eqb tag 1 n₁, ne-eqb tag 2 n₂, ne-eqb tag 3 n₃, ne-eqb tag 4 n₄, ne-eqb tag 7 n₇, ne-eqb tag 8 n₈)
+    (go (eqb tag 5) (eqb tag 6))
   where
     go : (trigger reset : Bool) → _≡_ {A = ℕ} (cond trigger 0 (cond reset 0 0)) 0
     go true reset = refl
     go false true = refl
     go false false = refl
 
-pub call-law : (tag : ℕ) → 0 < tag → tag < 7 → isCallTag tag ≡ true
+pub call-law : (tag : ℕ) → 0 < tag → tag < 9 → isCallTag tag ≡ true
 unfolding isCallTag isCallIn
 call-law zero some h = absurd (omega arith)
 call-law (suc zero) some h = refl
@@ -43,22 +45,24 @@ call-law (suc (suc (suc zero))) some h = refl
 call-law (suc (suc (suc (suc zero)))) some h = refl
 call-law (suc (suc (suc (suc (suc zero))))) some h = refl
 call-law (suc (suc (suc (suc (suc (suc zero)))))) some h = refl
-call-law (suc (suc (suc (suc (suc (suc (suc n))))))) some h = absurd (omega arith)
+call-law (suc (suc (suc (suc (suc (suc (suc zero))))))) some h = refl
+call-law (suc (suc (suc (suc (suc (suc (suc (suc zero)))))))) some h = refl
+call-law (suc (suc (suc (suc (suc (suc (suc (suc (suc n))))))))) some h = absurd (omega arith)
 
-module _ (tag : ℕ) (beyond : 7 ≤ tag) where
-  other : (n : ℕ) → n < 7 → eqb tag n ≡ false
+module _ (tag : ℕ) (beyond : 9 ≤ tag) where
+  other : (n : ℕ) → n < 9 → eqb tag n ≡ false
   other n h = ne-eqb tag n (λ e. omega arith)
 
   pub call-beyond : isCallTag tag ≡ false
   unfolding isCallTag isCallIn
-  call-beyond = rw (other 0 (omega arith), other 1 (omega arith), other 2 (omega arith), other 3 (omega arith), other 4 (omega arith), other 5 (omega arith), other 6 (omega arith))
+  call-beyond = rw (other 0 (omega arith), other 1 (omega arith), other 2 (omega arith), other 3 (omega arith), other 4 (omega arith), other 5 (omega arith), other 6 (omega arith), other 7 (omega arith), other 8 (omega arith))
 
-pub call-test : (tag : ℕ) → (tag ≡ 0 → ⊥) → ltb tag 7 ≡ isCallTag tag
+pub call-test : (tag : ℕ) → (tag ≡ 0 → ⊥) → ltb tag 9 ≡ isCallTag tag
 call-test tag other =
     ⊎-elim
-    (λ (h : tag < 7). lt-ltb tag 7 h ∙ sym (call-law tag (omega arith) h))
-    (λ (h : 7 ≤ tag). le-ltb tag 7 h ∙ sym (call-beyond tag h))
-    (lt-or-le tag 7)
+    (λ (h : tag < 9). lt-ltb tag 9 h ∙ sym (call-law tag (omega arith) h))
+    (λ (h : 9 ≤ tag). le-ltb tag 9 h ∙ sym (call-beyond tag h))
+    (lt-or-le tag 9)
 
 -- ---- numbers
 
@@ -127,35 +131,45 @@ shorter size left long =
 pub tag-at : (trace : List ℕ) (at : ℕ) → tagOf (drop at trace) ≡ getD trace at 0
 tag-at trace at = getD-drop at trace 0 0 ∙ ap (λ (n : ℕ). getD trace n 0) (add-zero at)
 
+-- what a whole field has
+whole-parts : (bytes : List ℕ) → isWhole bytes ≡ true → (3 ≤ length bytes) × (sizeOf bytes ≡ lengthOf (tagOf bytes)) × (3 + sizeOf bytes ≤ length bytes)
+unfolding isWhole
+whole-parts bytes field =
+    let front = and-left (leb 3 (length bytes) && eqb (sizeOf bytes) (lengthOf (tagOf bytes))) (leb (3 + sizeOf bytes) (length bytes)) field in (
+      leb-true 3 (length bytes) (and-left (leb 3 (length bytes)) _ front),
+      eqb-true _ _ (and-right (leb 3 (length bytes)) _ front),
+      leb-true _ _ (and-right (leb 3 (length bytes) && eqb (sizeOf bytes) (lengthOf (tagOf bytes))) _ field),
+    )
+
 -- the code's tests of a whole field
 module _ (trace : List ℕ) (at : ℕ) where
   pub whole-short : length trace - at < 3 → isWhole (drop at trace) ≡ false
   unfolding isWhole
   whole-short h = rw (lt-leb 3 (length (drop at trace)) (omega (arith, length-drop at trace)))
 
-  module _ (size : ℕ) (long : 3 ≤ length trace - at) (e : size ≡ lowFirst (take (at + 3 - (at + 1)) (drop (at + 1) trace))) where
-    size-at : sizeOf (drop at trace) ≡ size
-    size-at =
-        let two : 2 ≡ at + 3 - (at + 1) = omega arith in
-        ap lowFirst (ap₂ take two (drop-drop 1 at trace)) ∙ sym e
+  -- the two bytes that state a length
+  pub size-at : lowFirst (take (at + 3 - (at + 1)) (drop (at + 1) trace)) ≡ sizeOf (drop at trace)
+  size-at =
+      let two : at + 3 - (at + 1) ≡ 2 = omega arith in
+      ap lowFirst (ap₂ take two (sym (drop-drop 1 at trace)))
 
+  module _ (size : ℕ) (long : 3 ≤ length trace - at) (e : size ≡ sizeOf (drop at trace)) where
     pub whole-other : (size ≡ lengthOf (getD trace at 0) → ⊥) → isWhole (drop at trace) ≡ false
     unfolding isWhole
     whole-other other =
-        rw (le-leb 3 (length (drop at trace)) (omega (arith, length-drop at trace)), size-at, tag-at trace at, ne-eqb size (lengthOf (getD trace at 0)) other)
+        rw (le-leb 3 (length (drop at trace)) (omega (arith, length-drop at trace)), sym e, tag-at trace at, ne-eqb size (lengthOf (getD trace at 0)) other)
 
     pub whole-met : size ≡ lengthOf (getD trace at 0) → isWhole (drop at trace) ≡ leb size (length trace - at - 3)
     unfolding isWhole
     whole-met same =
-        rw (le-leb 3 (length (drop at trace)) (omega (arith, length-drop at trace)), size-at, tag-at trace at, eq-eqb size (lengthOf (getD trace at 0)) same, length-drop at trace)
+        rw (le-leb 3 (length (drop at trace)) (omega (arith, length-drop at trace)), sym e, tag-at trace at, eq-eqb size (lengthOf (getD trace at 0)) same, length-drop at trace)
         (shorter size (length trace - at) long)
 
   pub whole-some : isWhole (drop at trace) ≡ true → 3 ≤ length trace - at
-  unfolding isWhole
-  whole-some field =
-      let bytes : List ℕ = drop at trace in
-      let front = and-left (leb 3 (length bytes) && eqb (sizeOf bytes) (lengthOf (tagOf bytes))) (leb (3 + sizeOf bytes) (length bytes)) field in
-      omega (arith, leb-true 3 (length bytes) (and-left (leb 3 (length bytes)) (eqb (sizeOf bytes) (lengthOf (tagOf bytes))) front), length-drop at trace)
+  whole-some field = omega (arith, whole-parts (drop at trace) field .0, length-drop at trace)
+
+  pub whole-size : isWhole (drop at trace) ≡ true → sizeOf (drop at trace) ≡ lengthOf (getD trace at 0)
+  whole-size field = whole-parts (drop at trace) field .1 ∙ ap lengthOf (tag-at trace at)
 
 -- a whole field: its length is its tag's, and it ends in the trace
 pub record FieldAt (trace : List ℕ) (at size : ℕ) : Type 0 where
@@ -164,13 +178,10 @@ pub record FieldAt (trace : List ℕ) (at size : ℕ) : Type 0 where
   pub after : afterField (drop at trace) ≡ drop (at + 3 + size) trace
 
 pub whole-at : (trace : List ℕ) (at size : ℕ) → size ≡ lengthOf (getD trace at 0) → isWhole (drop at trace) ≡ true → FieldAt trace at size
-unfolding isWhole
 whole-at trace at size e field =
     let bytes : List ℕ = drop at trace in
-    let front = and-left (leb 3 (length bytes) && eqb (sizeOf bytes) (lengthOf (tagOf bytes))) (leb (3 + sizeOf bytes) (length bytes)) field in
-    let sizes : sizeOf bytes ≡ lengthOf (tagOf bytes) = eqb-true _ _ (and-right (leb 3 (length bytes)) _ front) in
-    let same : sizeOf bytes ≡ size = sizes ∙ ap lengthOf (tag-at trace at) ∙ sym e in
-    let long : 3 + sizeOf bytes ≤ length bytes = leb-true _ _ (and-right (leb 3 (length bytes) && eqb (sizeOf bytes) (lengthOf (tagOf bytes))) _ field) in
+    let same : sizeOf bytes ≡ size = whole-size trace at field ∙ sym e in
+    let long : 3 + sizeOf bytes ≤ length bytes = whole-parts bytes field .2 in
     let left = length-drop at trace in
     let next : at + (3 + sizeOf bytes) ≡ at + 3 + size = omega (arith, same) in
     record {

@@ -1,7 +1,8 @@
 // A call's body decoded, and the call made. Of the board only the promises of its calls are known here.
 ghost use mathlib.Core.Path.{_≡_};
-ghost use Prim.Native.Nat.{_≤_};
-ghost use mathlib.Core.List.{_++_};
+ghost use Prim.Native.Nat.{ℕ, _≤_};
+ghost use mathlib.Core.List.{List, _++_};
+ghost use lib.IntN.{ℤ};
 ghost use lib.ListN.{length, drop};
 ghost use Rattle.analog.specs.Answers.{numberOf, valueOf};
 ghost use Rattle.pmc330_model.specs.Board.{boardCall};
@@ -110,6 +111,20 @@ fn advance(
     rebuilt(lent::advance(words, inputs, gains, codes, unread, ticks))
 }
 
+fn look(codes: &[u16; 32], unread: &[u8; 32], body: &[u8]) -> Answer
+    requires { ⌜ length (now body) ≡ 1 ⌝ }
+    ensures { λ r. ⌜ ((words : List ℕ) (inputs : List ℤ) (gains : List ℕ) → (r ≡ boardCall (boardIn words inputs gains (now (codes .entry)) (now (unread .entry))) (callOf 7 (now (body .entry))) .answer) × (boardIn words inputs gains (now (codes .entry)) (now (unread .entry)) ≡ boardCall (boardIn words inputs gains (now (codes .entry)) (now (unread .entry))) (callOf 7 (now (body .entry))) .board)) ⌝ }
+{
+    lent::look(codes, unread, fields::number(&body[0..1]))
+}
+
+fn clear(unread: &mut [u8; 32], body: &[u8]) -> Answer
+    requires { ⌜ length (now body) ≡ 1 ⌝ }
+    ensures { λ r. ⌜ ((words : List ℕ) (inputs : List ℤ) (gains codes : List ℕ) → (r ≡ boardCall (boardIn words inputs gains codes (now (unread .entry))) (callOf 8 (now (body .entry))) .answer) × (boardIn words inputs gains codes (now (unread .exit)) ≡ boardCall (boardIn words inputs gains codes (now (unread .entry))) (callOf 8 (now (body .entry))) .board)) ⌝ }
+{
+    lent::clear(unread, fields::number(&body[0..1]))
+}
+
 // The call of a tag and a body, on the board that is lent. A tag that is no other call's is taken as reset.
 pub(crate) fn call(
     words: &mut [u32; 17],
@@ -138,6 +153,12 @@ pub(crate) fn call(
     }
     if tag == 5 {
         return rebuilt(lent::trigger(words, inputs, gains, codes, unread));
+    }
+    if tag == 7 {
+        return look(codes, unread, body);
+    }
+    if tag == 8 {
+        return clear(unread, body);
     }
     lent::reset(words, inputs, gains, codes, unread)
 }

@@ -1,11 +1,11 @@
 // The fields of a trace: the heading, and the check of the later ones.
 ghost use mathlib.Core.Path.{_≡_};
-ghost use Prim.Native.Nat.{_<_, _≤_};
+ghost use Prim.Native.Nat.{_+_, _<_, _≤_};
 ghost use mathlib.Core.List.{[], _∷_};
 ghost use lib.ListN.{length, getD, drop};
 ghost use Rattle.analog.specs.Answers.{firstNo};
 ghost use Rattle.trace.specs.Grammar.{lengthOf, isCallTag, lowFirst};
-ghost use Rattle.trace.specs.Fields.{isWhole, isHeading, isCallField, sameBytes, laterFields};
+ghost use Rattle.trace.specs.Fields.{sizeOf, isWhole, isHeading, isCallField, sameBytes, laterFields};
 ghost use Rattle.trace.specs.Play.{callsOf, fieldsQuestion};
 ghost use Rattle.trace.specs.Machine.{checkedNumber, checkedCalls};
 
@@ -26,6 +26,8 @@ pub(crate) fn length_of(tag: u8) -> usize
         2 => 7,
         3 => 5,
         4 => 4,
+        7 => 1,
+        8 => 1,
         _ => 0,
     }
 }
@@ -36,7 +38,7 @@ fn is_call_tag(tag: u8) -> bool
     if tag == 0 {
         return false;
     }
-    tag < 7
+    tag < 9
 }
 
 pub(crate) fn wide(x: u8) -> u32
@@ -64,6 +66,16 @@ pub(crate) fn number(bytes: &[u8]) -> u32
     low + 65_536 * high
 }
 
+// The length that the field at `at` states.
+fn size_at(trace: &[u8], at: usize) -> usize
+    requires { ⌜ at + 3 ≤ length (now trace) ⌝ }
+    ensures { λ r. ⌜ r ≡ sizeOf (drop at (now (trace .entry))) ⌝ }
+{
+    let a = at + 1;
+    let e = at + 3;
+    number(&trace[a..e]) as usize
+}
+
 // Whether the field at `at` is whole, with its tag's length.
 fn is_whole(trace: &[u8], at: usize) -> bool
     requires { ⌜ at ≤ length (now trace) ⌝ }
@@ -73,9 +85,7 @@ fn is_whole(trace: &[u8], at: usize) -> bool
     if left < 3 {
         return false;
     }
-    let a = at + 1;
-    let e = at + 3;
-    let size = number(&trace[a..e]) as usize;
+    let size = size_at(trace, at);
     if size != length_of(trace[at]) {
         return false;
     }
@@ -122,7 +132,8 @@ pub(crate) fn is_heading(trace: &[u8]) -> bool
     trace[7] <= 3
 }
 
-// The check of the later fields: no board is asked.
+// The check of the later fields: no board is asked. It goes on by the length that a field states, which is its tag's: to look
+// that up would make each turn wait for two reads.
 pub(crate) fn check_fields(trace: &[u8]) -> Checked
     requires { ⌜ 8 ≤ length (now trace) ⌝ }
     ensures number { λ r. ⌜ checkedNumber r ≡ firstNo (fieldsQuestion (laterFields (now (trace .entry))) ∷ []) ⌝ }
@@ -135,7 +146,7 @@ pub(crate) fn check_fields(trace: &[u8]) -> Checked
         if !is_call_field(trace, at) {
             return Checked::Damaged;
         }
-        at = at + 3 + length_of(trace[at]);
+        at = at + 3 + size_at(trace, at);
         n += 1;
     }
     Checked::Calls(n)

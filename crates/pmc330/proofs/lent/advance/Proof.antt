@@ -8,7 +8,7 @@ use Rattle.pmc330_model.specs.Calls.{advance}
 use Rattle.pmc330_model.specs.Lent.{boardIn}
 use Rattle.pmc330.specs.Steps.{boardWith, coreIn}
 use Rattle.pmc330.proofs.HeldLaws.{Narrow}
-use Rattle.pmc330.proofs.ReplyLaws.{advance-refused, advance-met}
+use Rattle.pmc330.proofs.QuestionLaws.{advance-refused, advance-met}
 use Rattle.pmc330.proofs.LentLaws.{refused-in-place, accepted-in-place}
 use Rattle.pmc330.proofs.lent.advance.Statement.{statement}
 use Rattle.pmc330.proofs.lent.advance.Tie as tie

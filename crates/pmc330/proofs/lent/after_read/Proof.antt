@@ -1,9 +1,9 @@
--- Only a mailbox read changes a count.
+-- Of the reads, only a mailbox's changes a count.
 use borrow.Author.Needs.{needs}
 use mathlib.Core.Path.{sym, ap}
 use lib.ListN.{set}
 use Rattle.pmc330_model.specs.Map.{Register, ifMailbox}
-use Rattle.pmc330.proofs.ReplyLaws.{low-class, mailbox-class, high-class}
+use Rattle.pmc330.proofs.Classes.{low-class, mailbox-class, high-class}
 use Rattle.pmc330.proofs.lent.after_read.Statement.{statement}
 use Rattle.pmc330.proofs.lent.after_read.Tie as tie
 

@@ -12,7 +12,8 @@ use Rattle.pmc330_model.specs.Board.{afterCall, valueOfCall}
 use Rattle.pmc330_model.specs.Calls.{input}
 use Rattle.pmc330_model.specs.Lent.{boardIn}
 use Rattle.pmc330_model.specs.Questions.{callQuestions, inputQuestions}
-use Rattle.pmc330.proofs.ReplyLaws.{refused-reply, accepted-reply, input-channel}
+use Rattle.pmc330_model.proofs.Replies.{refused-reply, accepted-reply}
+use Rattle.pmc330.proofs.QuestionLaws.{input-channel}
 use Rattle.pmc330.proofs.LentLaws.{replied}
 use Rattle.pmc330.proofs.lent.input.Statement.{statement}
 use Rattle.pmc330.proofs.lent.input.Tie as tie

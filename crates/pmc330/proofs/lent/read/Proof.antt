@@ -9,7 +9,7 @@ use Rattle.pmc330_model.specs.Words.{readWord}
 use Rattle.pmc330.specs.Classes.{registerOf}
 use Rattle.pmc330.specs.Steps.{viewIn}
 use Rattle.pmc330.specs.declared.held.Core.{Core}
-use Rattle.pmc330.proofs.ReplyLaws.{refused-reply, accepted-reply}
+use Rattle.pmc330_model.proofs.Replies.{refused-reply, accepted-reply}
 use Rattle.pmc330.proofs.AccessLaws.{read-number-is, read-board-is, read-value-is, read-counts}
 use Rattle.pmc330.proofs.LentLaws.{replied}
 use Rattle.pmc330.proofs.lent.read.Statement.{statement}

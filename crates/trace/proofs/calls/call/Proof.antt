@@ -57,14 +57,41 @@ returns-5 c =
     let a = c .before .before .before .before .before .before .before .before .before .before .before .before .before .args in
     replied (same-tag (boardIn (a .words .now) (a .inputs .now) (a .gains .now) (a .codes .now) (a .unread .now)) (a .body .now) (sym (c .before .before .before .before .before .before .before .if5 .taken))) (c .rebuilt .ensures ∙ c .before .trigger .ensures .0) (c .before .trigger .ensures .1 .0)
 
+look-requires : tie.Need-look-requires
+unfolding lengthOf lengthIn
+look-requires c κs = c .before .before .before .before .before .before .before .before .before .pre ∙ ap lengthOf (c .before .before .if6 .taken)
+
+returns-6 : tie.Need-returns-6
+returns-6 c =
+    let a = c .before .before .before .before .before .before .before .before .before .before .args in
+    let call = c .look .ensures (a .words .now) (a .inputs .now) (a .gains .now) in
+    replied (same-tag (boardIn (a .words .now) (a .inputs .now) (a .gains .now) (a .codes .now) (a .unread .now)) (a .body .now) (sym (c .before .before .before .if6 .taken))) (call .0) (call .1)
+
+clear-requires : tie.Need-clear-requires
+unfolding lengthOf lengthIn
+clear-requires c κs = c .before .before .before .before .before .before .before .before .before .pre ∙ ap lengthOf (c .before .if7 .taken)
+
+returns-7 : tie.Need-returns-7
+returns-7 c =
+    let a = c .before .before .before .before .before .before .before .before .before .before .args in
+    let call = c .clear .ensures (a .words .now) (a .inputs .now) (a .gains .now) (a .codes .now) in
+    replied (same-tag (boardIn (a .words .now) (a .inputs .now) (a .gains .now) (a .codes .now) (a .unread .now)) (a .body .now) (sym (c .before .before .if7 .taken))) (call .0) (call .1)
+
 reset-requires : tie.Need-reset-requires
 reset-requires c κs = search needs
 
-returns-6 : tie.Need-returns-6
+returns-8 : tie.Need-returns-8
 unfolding callOf
-returns-6 c =
-    let a = c .before .before .before .before .before .before .before .before .before .before .before .before .args in
-    rw (ne-eqb (a .tag) 1 (c .before .before .before .before .before .before .before .before .before .before .if1 .left), ne-eqb (a .tag) 2 (c .before .before .before .before .before .before .before .before .before .if2 .left), ne-eqb (a .tag) 3 (c .before .before .before .before .before .before .before .before .if3 .left), ne-eqb (a .tag) 4 (c .before .before .before .before .before .before .before .if4 .left), ne-eqb (a .tag) 5 (c .before .before .before .before .before .before .if5 .left))
+returns-8 c =
+    let not8 = c .before .before .before .before .before .before in
+    let not7 = not8 .before in
+    let not5 = not7 .before in
+    let not4 = not5 .before in
+    let not3 = not4 .before in
+    let not2 = not3 .before in
+    let not1 = not2 .before in
+    let tag = not1 .before .before .args .tag in
+    rw (ne-eqb tag 1 (not1 .if1 .left), ne-eqb tag 2 (not2 .if2 .left), ne-eqb tag 3 (not3 .if3 .left), ne-eqb tag 4 (not4 .if4 .left), ne-eqb tag 5 (not5 .if5 .left), ne-eqb tag 7 (not7 .if6 .left), ne-eqb tag 8 (not8 .if7 .left))
     (c .reset .ensures .0, c .reset .ensures .1 .0)
 
 pub call-spec : {M : Type 1} → statement M
@@ -82,5 +109,9 @@ call-spec =
     trigger-requires
     rebuilt-requires
     returns-5
+    look-requires
+    returns-6
+    clear-requires
+    returns-7
     reset-requires
-    returns-6)
+    returns-8)

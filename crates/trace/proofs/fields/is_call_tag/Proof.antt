@@ -1,4 +1,4 @@
--- The tags of calls are 1 to 6.
+-- The tags of calls are 1 to 8.
 use mathlib.Core.Path.{sym, ap}
 use Rattle.trace.specs.Grammar.{isCallTag, isCallIn}
 use Rattle.trace.proofs.FieldLaws.{call-test}

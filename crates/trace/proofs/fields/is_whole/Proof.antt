@@ -11,26 +11,8 @@ sub-left c = search needs
 returns : tie.Need-returns
 returns c = sym (whole-short (c .before .before .args .trace .now) (c .before .before .args .at) (c .if1 .taken))
 
-add-a : tie.Need-add-a
-add-a c = search needs
-
-add-e : tie.Need-add-e
-add-e c = search needs
-
-sub-number : tie.Need-sub-number
-sub-number c = search needs
-
-part-number-start : tie.Need-part-number-start
-part-number-start c = search needs
-
-part-number-end : tie.Need-part-number-end
-part-number-end c = search needs
-
-number-requires : tie.Need-number-requires
-number-requires c κs = search needs
-
-cast-size : tie.Need-cast-size
-cast-size c = search needs
+size-at-requires : tie.Need-size-at-requires
+size-at-requires c κs = search needs
 
 shared-slice-read-length-of : tie.Need-shared-slice-read-length-of
 shared-slice-read-length-of c = search needs
@@ -40,28 +22,18 @@ length-of-requires c κs = search needs
 
 returns-2 : tie.Need-returns-2
 returns-2 c =
-    let a = c .before .before .before .before .before .before .before .args in
-    sym (whole-other (a .trace .now) (a .at) (c .before .before .before .number .result) (c .before .before .before .before .before .if1 .left) (c .before .before .before .number .ensures) (λ e. c .if2 .taken (e ∙ sym (c .before .length-of .ensures .0))))
+    let size = c .before .before .before .size-at in
+    let tested = c .before .before .before .before in
+    let a = tested .before .before .args in
+    sym (whole-other (a .trace .now) (a .at) (size .result) (tested .if1 .left) (size .ensures) (λ e. c .if2 .taken (e ∙ sym (c .before .length-of .ensures .0))))
 
 returns-3 : tie.Need-returns-3
 returns-3 c =
-    let a = c .before .before .before .before .before .before .before .args in
-    sym (whole-met (a .trace .now) (a .at) (c .before .before .before .number .result) (c .before .before .before .before .before .if1 .left) (c .before .before .before .number .ensures) (c .if2 .left ∙ c .before .length-of .ensures .0))
+    let size = c .before .before .before .size-at in
+    let tested = c .before .before .before .before in
+    let a = tested .before .before .args in
+    sym (whole-met (a .trace .now) (a .at) (size .result) (tested .if1 .left) (size .ensures) (c .if2 .left ∙ c .before .length-of .ensures .0))
 
 pub is-whole-spec : {M : Type 1} → statement M
 is-whole-spec =
-    tie.close
-    (tie.spec
-    sub-left
-    returns
-    add-a
-    add-e
-    sub-number
-    part-number-start
-    part-number-end
-    number-requires
-    cast-size
-    shared-slice-read-length-of
-    length-of-requires
-    returns-2
-    returns-3)
+    tie.close (tie.spec sub-left returns size-at-requires shared-slice-read-length-of length-of-requires returns-2 returns-3)

@@ -27,9 +27,19 @@ unfolding lengthOf lengthIn
 returns-5 c = (sym (ap lengthOf (c .match .keys5)), omega arith)
 
 returns-6 : tie.Need-returns-6
-returns-6 c =
-    let none = c .match .rest in
-    (sym (length-none (c .before .args .tag) (none .0 .0 .0 .0 .1) (none .0 .0 .0 .1) (none .0 .0 .1) (none .0 .1) (none .1)), omega arith)
+unfolding lengthOf lengthIn
+returns-6 c = (sym (ap lengthOf (c .match .keys6)), omega arith)
+
+returns-7 : tie.Need-returns-7
+unfolding lengthOf lengthIn
+returns-7 c = (sym (ap lengthOf (c .match .keys7)), omega arith)
+
+returns-8 : tie.Need-returns-8
+returns-8 c =
+    let none = c .match .rest in (
+      sym (length-none (c .before .args .tag) (none .0 .0 .0 .0 .0 .0 .1) (none .0 .0 .0 .0 .0 .1) (none .0 .0 .0 .0 .1) (none .0 .0 .0 .1) (none .0 .0 .1) (none .0 .1) (none .1)),
+      omega arith,
+    )
 
 pub length-of-spec : {M : Type 1} → statement M
-length-of-spec = tie.close (tie.spec returns returns-2 returns-3 returns-4 returns-5 returns-6)
+length-of-spec = tie.close (tie.spec returns returns-2 returns-3 returns-4 returns-5 returns-6 returns-7 returns-8)
