@@ -3,15 +3,15 @@ use mathlib.Core.Bool.{Bool, true, false, not, cond, _&&_}
 use mathlib.Core.List.{List, [], _∷_, _++_}
 use mathlib.Core.Logic.{⊎-elim}
 use mathlib.Core.Path.{_≡_, refl, sym, _∙_}
-use Prim.Native.Nat.{ℕ, zero, suc, _^_, _≤_, _<_}
+use Prim.Native.Nat.{ℕ, _^_, _≤_, _<_}
 use native.Mathlib.Omega.{arith}
-use lib.Dec.{T, eqb, ltb, leb}
+use lib.Dec.{eqb, ltb, leb}
 use lib.IntN.{ℤ}
 use mir.Syntax.{w8}
 use mir.Val.{Fits}
 use borrow.Author.Tests.{ne-eqb, leb-true, le-leb, lt-leb}
 use Rattle.analog.specs.Answers.{Question, question, firstNo}
-use Rattle.pmc330_model.specs.Map.{Register, isMapped, isReadable, isWritable, ifInterrupt, ifControl, ifChannels, ifStartConvert, scanField}
+use Rattle.pmc330_model.specs.Map.{Register, isMapped, isReadable, isWritable, scanField}
 use Rattle.pmc330_model.specs.Words.{bitOf, isStart}
 use Rattle.pmc330_model.specs.Calls.{advance}
 use Rattle.pmc330_model.specs.Questions.{isWidth, isAligned, isAllowed, hasUsedCodes, isValid, accessQuestions, inputQuestions, slotQuestions, callQuestions}
@@ -21,6 +21,7 @@ use Rattle.pmc330_model.specs.declared.Registers.{Registers}
 use Rattle.pmc330_model.proofs.QuestionLaws.{first-met}
 use Rattle.pmc330.specs.Classes.{registerOf}
 use Rattle.pmc330.specs.Widths.{powerOf}
+use Rattle.pmc330.proofs.Classes.{valuesBelow, same-below}
 use Rattle.pmc330.proofs.WidthLaws.{width-is, power-is}
 
 pub width-least : (width : ℕ) → isWidth width ≡ true → 8 ≤ width
@@ -75,104 +76,65 @@ module _ (width offset : ℕ) (register : Register) {n : ℕ} (number : n ≡ fi
         power = power-is width (width-is width (first-met 0 (isWidth width) _ (sym number ∙ met)));
       }
 
--- one computed test for each rule about classes: two answers are the same at every class
-abbrev same : Bool → Bool → Bool
-same true b = b
-same false b = not b
-
-abbrev sameBelow : (f g : ℕ → Bool) → ℕ → Bool
-sameBelow f g zero = true
-sameBelow f g (suc n) = same (f 0) (g 0) && sameBelow (λ k. f (suc k)) (λ k. g (suc k)) n
-
-first-same : (a b others : Bool) → T (same a b && others) → (a ≡ b) × T others
-first-same true true others t = (refl, t)
-first-same true false others t = absurd t
-first-same false true others t = absurd t
-first-same false false others t = (refl, t)
-
-same-at : (f g : ℕ → Bool) (n : ℕ) → T (sameBelow f g n) → (k : ℕ) → k < n → f k ≡ g k
-same-at f g zero t k h = absurd (omega arith)
-same-at f g (suc n) t zero h = first-same (f 0) (g 0) (sameBelow (λ i. f (suc i)) (λ i. g (suc i)) n) t .0
-same-at f g (suc n) t (suc k) h =
-    same-at (λ i. f (suc i)) (λ i. g (suc i)) n
-    (first-same (f 0) (g 0) (sameBelow (λ i. f (suc i)) (λ i. g (suc i)) n) t .1)
-    k (omega arith)
-
--- a rule about registers, by the class
+-- a rule about registers, by the class: one computed test for each rule
 by-class :
-    (rule : Register → Bool) (test : ℕ → Bool) → T (sameBelow (λ k. rule (registerOf k)) test 256)
+    (rule : Register → Bool) (test : ℕ → Bool) → valuesBelow (λ k. rule (registerOf k)) 256 ≡ valuesBelow test 256
     → {class : ℕ} → Fits w8 class → rule (registerOf class) ≡ test class
-by-class rule test t {class} byte = same-at (λ k. rule (registerOf k)) test 256 t class (byte .fits)
+by-class rule test same {class} byte = same-below (λ k. rule (registerOf k)) test 256 same class (byte .fits)
 
 abbrev pub mappedClass : ℕ → Bool
 mappedClass class = cond (eqb class 0) false (cond (ltb class 15) true (cond (ltb class 32) false (ltb class 64)))
 
 pub mapped-class : {class : ℕ} → Fits w8 class → isMapped (registerOf class) ≡ mappedClass class
 unfolding registerOf
-mapped-class = by-class isMapped mappedClass tt
+mapped-class = by-class isMapped mappedClass refl
 
 pub readable-class : {class : ℕ} → Fits w8 class → isReadable (registerOf class) ≡ not (eqb class 6)
 unfolding registerOf
-readable-class = by-class isReadable (λ class. not (eqb class 6)) tt
+readable-class = by-class isReadable (λ class. not (eqb class 6)) refl
 
 abbrev pub writableClass : ℕ → Bool
 writableClass class = cond (ltb class 7) true (cond (ltb class 11) false (cond (ltb class 32) true (leb 64 class)))
 
 pub writable-class : {class : ℕ} → Fits w8 class → isWritable (registerOf class) ≡ writableClass class
 unfolding registerOf
-writable-class = by-class isWritable writableClass tt
+writable-class = by-class isWritable writableClass refl
 
 -- question 6 of a board that is not idle, by whether the write stops the scan and whether it leaves bit 0 clear
-abbrev allowed : (stops clear : Bool) → Register → Bool
-allowed stops clear register = ifInterrupt register true (ifControl register stops (ifStartConvert register clear false))
-
 abbrev pub allowedClass : (stops clear : Bool) → ℕ → Bool
 allowedClass stops clear class = cond (eqb class 1) true (cond (eqb class 2) stops (cond (eqb class 6) clear false))
-
-allowed-by : (stops clear : Bool) {class : ℕ} → Fits w8 class → allowed stops clear (registerOf class) ≡ allowedClass stops clear class
-unfolding registerOf
-allowed-by true true = by-class (allowed true true) (allowedClass true true) tt
-allowed-by true false = by-class (allowed true false) (allowedClass true false) tt
-allowed-by false true = by-class (allowed false true) (allowedClass false true) tt
-allowed-by false false = by-class (allowed false false) (allowedClass false false) tt
 
 pub allowed-class :
     (word : ℕ) (resulting : Registers) {class : ℕ} → Fits w8 class
     → isAllowed false (registerOf class) word resulting
     ≡ allowedClass (eqb (scanField (resulting .control)) 0) (not (bitOf 0 word)) class
-allowed-class word resulting = allowed-by (eqb (scanField (resulting .control)) 0) (not (bitOf 0 word))
+unfolding registerOf
+allowed-class word resulting =
+    by-class (λ register. isAllowed false register word resulting)
+    (allowedClass (eqb (scanField (resulting .control)) 0) (not (bitOf 0 word)))
+    refl
 
 -- question 7, by whether the codes are used and the channels are at most 31
-abbrev valid : (used within : Bool) → Register → Bool
-valid used within register = ifControl register used (ifChannels register within true)
-
 abbrev pub validClass : (used within : Bool) → ℕ → Bool
 validClass used within class = cond (eqb class 2) used (cond (eqb class 5) within true)
-
-valid-by : (used within : Bool) {class : ℕ} → Fits w8 class → valid used within (registerOf class) ≡ validClass used within class
-unfolding registerOf
-valid-by true true = by-class (valid true true) (validClass true true) tt
-valid-by true false = by-class (valid true false) (validClass true false) tt
-valid-by false true = by-class (valid false true) (validClass false true) tt
-valid-by false false = by-class (valid false false) (validClass false false) tt
 
 pub valid-class :
     (resulting : Registers) {class : ℕ} → Fits w8 class
     → isValid (registerOf class) resulting
     ≡ validClass (hasUsedCodes (resulting .control)) (leb (resulting .start) 31 && leb (resulting .end) 31) class
-valid-class resulting = valid-by (hasUsedCodes (resulting .control)) (leb (resulting .start) 31 && leb (resulting .end) 31)
+unfolding registerOf
+valid-class resulting =
+    by-class (λ register. isValid register resulting)
+    (validClass (hasUsedCodes (resulting .control)) (leb (resulting .start) 31 && leb (resulting .end) 31))
+    refl
 
 -- a start, by bit 0
 abbrev startClass : Bool → ℕ → Bool
 startClass bit class = cond (eqb class 6) bit false
 
-start-by : (bit : Bool) {class : ℕ} → Fits w8 class → ifStartConvert (registerOf class) bit false ≡ startClass bit class
-unfolding registerOf
-start-by true = by-class (λ register. ifStartConvert register true false) (startClass true) tt
-start-by false = by-class (λ register. ifStartConvert register false false) (startClass false) tt
-
 pub start-class : (word : ℕ) {class : ℕ} → Fits w8 class → isStart (registerOf class) word ≡ startClass (bitOf 0 word) class
-start-class word = start-by (bitOf 0 word)
+unfolding registerOf
+start-class word = by-class (λ register. isStart register word) (startClass (bitOf 0 word)) refl
 
 -- question 13, and what questions 11 and 12 leave
 module _ (b : Board) (ticks : ℕ) where

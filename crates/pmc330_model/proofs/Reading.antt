@@ -75,7 +75,7 @@ joined-same base f g (suc n) same =
 -- ---- the registers of the map
 
 -- a slot is below 32, a half below 2 and a group of gains below 4: the agreement is about no others
-abbrev pub Placed : Register → Type 0
+abbrev Placed : Register → Type 0
 Placed unmapped = Unit
 Placed interrupt = Unit
 Placed control = Unit
@@ -110,7 +110,7 @@ placed-word n =
     (placed-either (ltb n 0x40) _ _ (λ low. omega (arith, ltb-true n 0x40 low)) tt)))
 
 -- every register that an offset has is so
-pub placed : (offset : ℕ) → Placed (classOf offset)
+placed : (offset : ℕ) → Placed (classOf offset)
 unfolding classOf
 placed offset = placed-either (ltb (offset % 4) 2) _ _ (λ live. placed-word (offset / 4)) tt
 

@@ -1,17 +1,24 @@
--- The table's rule, and the rule beyond the table.
+-- The byte rule: a live byte has the class of its word, the others are unmapped.
 use borrow.Author.Needs.{needs}
-use Rattle.pmc330.proofs.Classes.{class-right, class-beyond}
+use mathlib.Core.Path.{sym, _∙_}
+use Prim.Native.Nat.{ℕ, _/_, _%_, _<_}
+use native.Mathlib.Omega.{arith}
+use Rattle.pmc330_model.proofs.Reading.{class-is}
+use Rattle.pmc330.proofs.Classes.{byte-unmapped}
 use Rattle.pmc330.proofs.map.class_at.Statement.{statement}
 use Rattle.pmc330.proofs.map.class_at.Tie as tie
 
-array-read-result : tie.Need-array-read-result
-array-read-result c = search needs
+word-class-requires : tie.Need-word-class-requires
+word-class-requires c κs = search needs
 
 returns : tie.Need-returns
-returns c = class-right (c .before .args .offset) (c .if1 .taken)
+returns c =
+    let offset : ℕ = c .before .before .args .offset in
+    let live : offset % 4 < 2 = c .before .if1 .taken in
+    c .word-class .ensures ∙ sym (class-is (offset / 4) (offset % 4) offset live (omega arith))
 
 returns-2 : tie.Need-returns-2
-returns-2 c = class-beyond (c .before .args .offset) (c .if1 .left)
+returns-2 c = byte-unmapped (c .before .args .offset) (c .if1 .left)
 
 pub class-at-spec : {M : Type 1} → statement M
-class-at-spec = tie.close (tie.spec array-read-result returns returns-2)
+class-at-spec = tie.close (tie.spec word-class-requires returns returns-2)
