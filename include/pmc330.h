@@ -27,8 +27,12 @@ extern "C" {
      burst     the first begins in the call that starts the cycle, each further one of its pass 120 ticks after the
                one before; the next pass 120 after the last one, and I more in burst continuous with the timer on;
      external trigger only   Start Convert arms. With the trigger field input, the first trigger of the cycle and each
-               one 64 ticks or more after the last one taken is taken: it stores the code taken before it, if there
-               is one, and takes its own.
+               one 64 ticks or more after the last one taken is taken: it stores the code that the one before it in
+               the cycle took, if there is one, and takes its own. On an idle board a trigger with that field arms by
+               itself, unless a start would be refused with 9: it stores an old code, the last one that a conversion
+               took since the reset (0 if none), in the mailbox of the Start Channel, clears no New or Missed bit, and
+               takes its own. For the interrupt that store ends no pass. Write Start Convert first where the old code
+               is not wanted.
    Single modes end with the last store of the first pass, and Control stays as it is. In the uniform and burst modes
    a trigger starts a cycle too, if the board is idle, the trigger field is input, and a start would be accepted.
    A conversion takes its code when it begins, that of its channel's voltage and gain then (see pmc330_code), and
@@ -36,11 +40,12 @@ extern "C" {
    of its slot: the channel, and in differential 16 more in the second, fourth, .. pass of the cycle. The voltage is
    the channel's input, in differential too, and in a calibration acquisition that calibration's.
    A store sets its slot's New bit, and the Missed bit too if New was set already: Missed says that one or more codes
-   were lost. A read of a mailbox, or pmc330_clear, drops both bits of its slot, a start (or a trigger that starts)
-   those of all slots; codes stay until the next store or a reset.
+   were lost. A read of a mailbox, or pmc330_clear, drops both bits of its slot, a start (or a trigger that starts a
+   uniform or burst cycle) those of all slots; codes stay until the next store or a reset.
    A store that the interrupt field names sets pending, enabled or not, and it stays until a release or a reset. The
    request line is enable and pending, so only stores, writes to Interrupt and resets move it.
-   A stop (Control with scan off) drops the conversion in progress; mailboxes, bits and pending stay. */
+   A stop (Control with scan off) drops the conversion in progress, whose code is still the last one taken; mailboxes,
+   bits and pending stay. */
 
 /* ---- Time ----
    A tick is 1/8 microsecond, 125 ns. Only an advance lets ticks pass. */

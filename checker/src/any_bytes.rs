@@ -14,7 +14,7 @@ use crate::stepped::{changes_what_it_may, SteppedBoard, BYTES};
 use crate::stepping::beyond_a_trace;
 
 /// What is drawn: how the bytes come about.
-const STYLES: [&str; 7] = [
+const STYLES: [&str; 8] = [
     "all bytes random",
     "a good board, some words replaced",
     "a good board, some bytes replaced",
@@ -22,7 +22,11 @@ const STYLES: [&str; 7] = [
     "marked numbers in the words",
     "every byte FFH",
     "every byte 0",
+    "a board before arming, some words replaced",
 ];
+
+/// The last of them: an idle board in external trigger only mode, and its first call is a trigger (02, A4).
+const BEFORE_ARMING: usize = 7;
 
 pub enum Moment {
     /// A struct as it was drawn, and its next store.
@@ -35,6 +39,8 @@ pub enum Moment {
         /// Has a byte changed?
         changes: bool,
     },
+    /// The first call on a board before arming: does it show in a look?
+    FirstTrigger { stores: bool },
     /// The next store held of the struct.
     Held { next_store: u32, is_longest: bool },
 }
@@ -79,6 +85,10 @@ pub fn step_any_bytes(
     subject.open_a_copy();
     subject.check_next_store(is_long);
     let mut made = 0;
+    if style == BEFORE_ARMING {
+        subject.trigger_before_arming();
+        made += 1;
+    }
     while made < calls {
         made += subject.turn();
         subject.check_next_store(false);
@@ -92,9 +102,10 @@ pub fn step_any_bytes(
 
 fn any_style(random: &mut Random) -> usize {
     // Every byte FFH or 0 is always the same struct: the calls differ.
-    match random.below(22) {
+    match random.below(26) {
         20 => 5,
         21 => 6,
+        22.. => BEFORE_ARMING,
         n => n as usize % 5,
     }
 }
@@ -102,7 +113,10 @@ fn any_style(random: &mut Random) -> usize {
 fn any_struct(random: &mut Random, style: usize) -> SteppedBoard {
     match style {
         0 => random_bytes(random),
-        1 => replaced_words(random),
+        1 => {
+            let board = good_board(random);
+            replaced_words(random, board)
+        }
         2 => replaced_bytes(random),
         3 => {
             let bound = random.pick(&[2, 6, 33, 200, 70_000]);
@@ -110,7 +124,11 @@ fn any_struct(random: &mut Random, style: usize) -> SteppedBoard {
         }
         4 => with_words(random, marked),
         5 => SteppedBoard::filled(0xFF),
-        _ => SteppedBoard::filled(0),
+        6 => SteppedBoard::filled(0),
+        _ => {
+            let board = board_before_arming(random);
+            replaced_words(random, board)
+        }
     }
 }
 
@@ -136,8 +154,18 @@ fn good_board(random: &mut Random) -> SteppedBoard {
     board
 }
 
-fn replaced_words(random: &mut Random) -> SteppedBoard {
+/// Idle, in external trigger only mode with trigger field 01; calls have led to it.
+fn board_before_arming(random: &mut Random) -> SteppedBoard {
     let mut board = good_board(random);
+    let control = random.pick(&[0x0502, 0x050B, 0x150B, 0x2503, 0x253A]);
+    let channels = random.pick(&[0x0000, 0x0F0F, 0x0F00, 0x0503]);
+    for (offset, word) in [(0x04, 0), (0x04, control), (0x10, channels)] {
+        assert_eq!(board.write(16, offset, word), 0);
+    }
+    board
+}
+
+fn replaced_words(random: &mut Random, mut board: SteppedBoard) -> SteppedBoard {
     for _ in 0..random.between(1, 3) {
         let place = random.below(17) as usize;
         let words = board.words_mut();
@@ -200,6 +228,16 @@ impl Subject<'_> {
                 self.name
             );
         }
+    }
+
+    /// It arms and stores, if the replaced words leave it so.
+    fn trigger_before_arming(&mut self) {
+        let looks = |mut board: SteppedBoard| std::array::from_fn(|slot| board.look(slot as u32));
+        let before: [u64; 32] = looks(self.board);
+        self.make(&Step::Trigger);
+        self.coverage.note(&Moment::FirstTrigger {
+            stores: looks(self.board) != before,
+        });
     }
 
     /// One call, or the few that the guide chooses together. Gives their number.
@@ -435,6 +473,21 @@ fn kinds_of_stores() -> Vec<Kind<Moment>> {
     ]
 }
 
+fn kinds_of_first_triggers() -> impl Iterator<Item = Kind<Moment>> {
+    let of = |(name, least, expected): (&str, u64, bool)| {
+        kind(
+            name,
+            least,
+            move |moment: &Moment| matches!(moment, Moment::FirstTrigger { stores } if *stores == expected),
+        )
+    };
+    let kinds = [
+        ("trigger before arming that stores", 3_000, true),
+        ("trigger before arming that stores nothing", 50, false),
+    ];
+    kinds.into_iter().map(of)
+}
+
 /// Looks that show a bit or none, clears that change a byte or none: accepted all of them.
 fn kinds_of_looks() -> Vec<Kind<Moment>> {
     let look = |name: &str, shows: bool| {
@@ -473,6 +526,7 @@ pub fn all_kinds() -> Vec<Kind<Moment>> {
     kinds_of_styles()
         .into_iter()
         .chain(kinds_of_numbers())
+        .chain(kinds_of_first_triggers())
         .chain(kinds_of_looks())
         .chain(kinds_of_stores())
         .collect()

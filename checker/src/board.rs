@@ -1,5 +1,5 @@
 //! The board: questions 1 to 14, the schedule and the mailboxes, from the sections of 01; looks and
-//! clears with question 22, from 02 (A2).
+//! clears with question 22, and triggers before arming, from 02 (A2, A4).
 //!
 //! Time is absolute here. The board knows its tick and the tick at which its cycle's next store or
 //! beginning is due. An advance goes from event to event, and over whole repeats of the scan once
@@ -43,6 +43,21 @@ pub struct Cycle {
     due: u64,
 }
 
+impl Cycle {
+    /// At this tick, with nothing begun; what comes by itself first is due at that one.
+    fn starting(tick: u64, due: u64) -> Cycle {
+        Cycle {
+            start: tick,
+            begun: 0,
+            stored: 0,
+            last_taken: None,
+            place: 0,
+            half: 0,
+            due,
+        }
+    }
+}
+
 /// What stays as it is while a call runs: the inputs, and what the registers say of the scan.
 struct Scan<'a> {
     range: u32,
@@ -71,7 +86,7 @@ struct Data {
     new: u32,
     missed: u32,
     pending: bool,
-    /// The code last taken, straight binary.
+    /// The code last taken since reset, straight binary, 0 if none: the end of a cycle leaves it.
     taken: u32,
 }
 
@@ -205,7 +220,7 @@ impl Board {
         accepted(stores)
     }
 
-    /// Starts a cycle or is taken, if its field is 01. "Any other trigger is accepted and ignored."
+    /// Starts a cycle, arms or is taken, if its field is 01. "Any other trigger is accepted and ignored."
     pub fn trigger(&mut self) -> Answer {
         let control = self.registers.control;
         if control.trigger() == TRIGGER_INPUT {
@@ -391,11 +406,16 @@ impl Board {
         let registers = &self.registers;
         let control = registers.control;
         ask(8, control.scan() != SCAN_OFF)?;
-        ask(9, registers.start <= registers.end)?;
-        ask(9, registers.end <= 15 || !control.is_differential())?;
+        ask(9, self.meets_question_9())?;
         ask(10, control.has_timer() || !control.is_uniform())?;
         let uses_interval = control.is_uniform() || control.has_delay();
         ask(10, registers.interval() >= 64 || !uses_interval)
+    }
+
+    /// "Is Start at most End, and End at most 15 if differential?"
+    fn meets_question_9(&self) -> bool {
+        let Registers { start, end, .. } = self.registers;
+        start <= end && (end <= 15 || !self.registers.control.is_differential())
     }
 }
 
@@ -424,24 +444,30 @@ impl Board {
         };
         self.data.new = 0;
         self.data.missed = 0;
-        self.cycle = Some(Cycle {
-            start: self.tick,
-            begun: 0,
-            stored: 0,
-            last_taken: None,
-            place: 0,
-            half: 0,
-            due,
-        });
+        self.cycle = Some(Cycle::starting(self.tick, due));
         self.run(self.tick);
     }
 
-    /// Starts a cycle "in scan 001 to 100 ... if questions 9 and 10 are met".
+    /// Starts a cycle "in scan 001 to 100 ... if questions 9 and 10 are met". In external trigger only
+    /// mode it arms "if question 9 is met, and is ignored if not" (02, A4).
     fn trigger_while_idle(&mut self) {
-        let scan = self.registers.control.scan();
-        if (UNIFORM_CONTINUOUS..=BURST_SINGLE).contains(&scan) && self.may_start().is_ok() {
-            self.start();
+        match self.registers.control.scan() {
+            UNIFORM_CONTINUOUS..=BURST_SINGLE if self.may_start().is_ok() => self.start(),
+            TRIGGER_ONLY if self.meets_question_9() => self.arm_by_trigger(),
+            _ => (),
         }
+    }
+
+    /// 02, A4: it "begins an armed cycle without clearing any bit". "As taken trigger 0 it stores the code
+    /// last taken since reset (0 if none), formatted, in the Start Channel's slot, and takes conversion 0."
+    fn arm_by_trigger(&mut self) {
+        let scan = Scan::of(self.range, &self.registers, &self.inputs);
+        // "For interrupts it counts as a store that ends no pass", also where a pass has one channel.
+        scan.put(scan.start as usize, false, &mut self.data);
+        let mut cycle = Cycle::starting(self.tick, NEVER);
+        scan.begin(&mut cycle, &mut self.data);
+        cycle.last_taken = Some(self.tick);
+        self.cycle = Some(cycle);
     }
 
     /// "Taken if armed and either the first in this cycle or 64 or more ticks after the last one
@@ -577,9 +603,23 @@ impl Scan<'_> {
         cycle.begun += 1;
     }
 
-    /// "A store puts the code in its slot and sets New, and Missed too if New was set already."
+    /// Stores the next conversion.
     fn store(&self, cycle: &mut Cycle, data: &mut Data) {
-        let slot = (self.start + cycle.place + cycle.half) as usize;
+        let slot = self.start + cycle.place + cycle.half;
+        cycle.stored += 1;
+        cycle.place += 1;
+        let is_last_of_pass = cycle.place == self.m;
+        if is_last_of_pass {
+            cycle.place = 0;
+            cycle.half ^= self.half;
+        }
+        self.put(slot as usize, is_last_of_pass, data);
+    }
+
+    /// "A store puts the code in its slot and sets New, and Missed too if New was set already." The code
+    /// is the one last taken.
+    #[inline]
+    fn put(&self, slot: usize, is_last_of_pass: bool, data: &mut Data) {
         let code = if self.control.is_straight() {
             data.taken
         } else {
@@ -588,13 +628,6 @@ impl Scan<'_> {
         data.mailboxes[slot] = code as u16;
         data.missed |= data.new & 1 << slot;
         data.new |= 1 << slot;
-        cycle.stored += 1;
-        cycle.place += 1;
-        let is_last_of_pass = cycle.place == self.m;
-        if is_last_of_pass {
-            cycle.place = 0;
-            cycle.half ^= self.half;
-        }
         // "Pending becomes 1, enabled or not."
         data.pending |= match self.control.interrupt() {
             EACH_STORE => true,
@@ -635,6 +668,11 @@ impl Board {
     /// The Missed bits, slot 0 in bit 0.
     pub fn missed(&self) -> u32 {
         self.data.missed
+    }
+
+    /// The code last taken since reset, straight binary, 0 if none.
+    pub fn code_last_taken(&self) -> u32 {
+        self.data.taken
     }
 
     /// Ticks until something comes by itself.

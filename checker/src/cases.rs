@@ -1,4 +1,4 @@
-//! Cases typed in from 01, from 02 (A2) and from MANUALS.md, as lists of calls with the answers expected.
+//! Cases typed in from 01, from 02 (A2, A4) and from MANUALS.md, as lists of calls with the answers expected.
 //! That a board is idle is seen by a write to 0CH: a busy one refuses it with 6.
 
 use crate::script::{steps, Step};
@@ -35,6 +35,7 @@ pub fn all() -> impl Iterator<Item = &'static Case> {
         QUESTIONS,
         SCHEDULE,
         LOOKS,
+        BEFORE_ARMING,
     ];
     groups.into_iter().flatten()
 }
@@ -195,7 +196,9 @@ pub const MISTAKES: &[Case] = &[
         advance 64; trigger; read 16 14H = 0003H; read 16 1CH = 0001H
         advance 1; trigger; read 16 14H = 0003H; read 16 1CH = 0001H   # ignored
         write 16 04H 000BH; trigger; read 16 14H = 0003H; read 16 1CH = 0001H
-        write 16 04H 050BH; trigger; read 16 14H = 0003H; read 16 1CH = 0001H   # not armed
+        write 16 04H 050BH; trigger                    # 02, A4: it arms, and clears no bit either;
+        read 16 14H = 0003H; read 16 1CH = 0001H       # its store finds slot 0 New and Missed
+        write 16 0CH 1 refused 6
         ",
     ),
 ];
@@ -674,7 +677,7 @@ pub const SCHEDULE: &[Case] = &[
         ",
     ),
     case(
-        "triggers start scans 001 to 100, and a running one ignores them",
+        "triggers start scans 001 to 100, and a running one ignores them; in 101 they arm",
         1,
         "
         write 8 09H 64; write 16 0CH 1
@@ -683,7 +686,8 @@ pub const SCHEDULE: &[Case] = &[
         write 16 04H 030BH; trigger; advance 60; trigger; advance 4 = 1; write 16 04H 0
         write 16 04H 040BH; trigger; advance 60; trigger; advance 4 = 1; advance 1000
         trigger; read 16 14H = 0; advance 64 = 1
-        write 16 04H 050BH; trigger; write 16 0CH 1; write 16 04H 000BH; trigger; write 16 0CH 1
+        write 16 04H 050BH; trigger; write 16 0CH 1 refused 6   # 02, A4: in scan 101 it arms
+        write 16 04H 000BH; trigger; write 16 0CH 1             # scan 000
         ",
     ),
     case(
@@ -913,6 +917,294 @@ pub const LOOKS: &[Case] = &[
         write 16 00H 1; write 16 04H 1309H; write 16 24H 1; advance 64 = 1; read 16 00H = 3
         look 0 = 18000H; read 16 00H = 3; clear 0; read 16 00H = 3; write 16 00H 8001H
         read 16 00H = 1; advance 120 = 1; read 16 00H = 3
+        ",
+    ),
+];
+
+/// 02, A4: "a trigger on an idle board in that mode, with trigger field 01, begins an armed cycle without
+/// clearing any bit". 050BH is that mode with straight codes, single ended, 050AH the same in two's
+/// complement, 0503H differential; 150BH and 250BH interrupt at each store and at the last of a pass. In range 1
+/// the codes of 0, 2,500,000, 5,000,000 and -5,000,000 uV are 8000H, A000H, C000H and 4000H.
+pub const BEFORE_ARMING: &[Case] = &[
+    case(
+        "no code taken yet, straight: 0000H",
+        1,
+        "
+        input 0 5,000,000; write 16 04H 050BH; look 0 = 0
+        trigger; look 0 = 10000H          # \"the code last taken since reset (0 if none)\", and New
+        read 16 14H = 1; read 16 1CH = 0; read 16 80H = 0000H; look 0 = 0
+        advance 64; trigger; look 0 = 1C000H   # conversion 0, taken by the first trigger
+        advance 64; trigger; look 0 = 3C000H   # conversion 1
+        ",
+    ),
+    case(
+        "no code taken yet, two's complement: 8000H",
+        1,
+        "
+        input 0 5,000,000; write 16 04H 050AH; look 0 = 0
+        trigger; look 0 = 18000H          # \"formatted\": bit 15 of the 0 is flipped
+        read 16 14H = 1; read 16 1CH = 0; read 16 80H = 8000H; look 0 = 8000H
+        advance 64; trigger; look 0 = 14000H   # C000H, flipped
+        ",
+    ),
+    case(
+        "after a stopped scan: the code in flight at the stop, which was never stored",
+        1,
+        "
+        input 0 5,000,000; input 1 -5,000,000
+        write 16 04H 0309H; write 16 10H 0100H; write 16 24H 1
+        advance 120 = 1                   # channel 0 is stored at 64, channel 1 begins at 120
+        write 16 04H 0009H; advance 1000; look 0 = 1C000H; look 1 = 0
+        write 16 04H 050BH; trigger; look 0 = 34000H; look 1 = 0   # channel 1's, in the Start Channel's slot
+        ",
+    ),
+    case(
+        "after a stopped uniform scan: its code counts from the beginning on, not before",
+        1,
+        "
+        input 0 5,000,000; write 16 04H 0409H; write 16 24H 1; advance 64 = 1; look 0 = 1C000H
+        input 0 -5,000,000; write 8 09H 64; write 16 0CH 1; write 16 04H 0909H; write 16 24H 1
+        advance 63; write 16 04H 0009H    # the first beginning is due at 64: C000H is the last one taken
+        write 16 04H 050BH; trigger; look 0 = 1C000H
+        write 16 04H 0009H; input 0 2,500,000; write 16 04H 0909H; write 16 24H 1
+        advance 64; write 16 04H 0009H    # begun, and not stored
+        write 16 04H 050BH; trigger; look 0 = 1A000H
+        ",
+    ),
+    case(
+        "after a finished single scan: the code of its last channel",
+        1,
+        "
+        input 0 5,000,000; input 1 2,500,000
+        write 16 04H 0409H; write 16 10H 0100H; write 16 24H 1; advance 184 = 2
+        read 16 80H = C000H; read 16 84H = A000H; advance 1,000,000
+        write 16 04H 050BH; trigger; look 0 = 1A000H; look 1 = A000H
+        advance 64; trigger; look 0 = 3C000H; look 1 = A000H   # conversion 0
+        advance 64; trigger; look 0 = 3C000H; look 1 = 1A000H  # conversion 1
+        ",
+    ),
+    case(
+        "9 not met: ignored, and no code is taken",
+        1,
+        "
+        input 0 5,000,000; input 1 5,000,000
+        write 16 04H 050BH; write 16 10H 0001H; trigger; write 16 0CH 1   # Start above End: still idle
+        write 16 04H 0503H; write 16 10H 1000H; trigger; write 16 0CH 1   # differential, End 16
+        write 16 10H 1F1FH; trigger; write 16 0CH 1                       # differential, Start 31
+        read 16 14H to 20H = 0; read 16 80H to FCH = 0
+        write 16 04H 050BH; write 16 10H 1000H; trigger; write 16 0CH 1 refused 6
+        look 0 = 10000H                   # single ended it is met, and no code was taken before
+        ",
+    ),
+    case(
+        "9 met by differential End 15; 10 is not asked",
+        1,
+        "
+        write 16 04H 0503H; write 16 10H 0F0FH; trigger; write 16 0CH 1 refused 6; look 15 = 10000H
+        write 16 04H 0; write 16 04H 0D0BH; write 16 10H 0; read 16 08H = 0; read 16 0CH = 0
+        trigger; write 16 0CH 1 refused 6; look 0 = 18000H   # timer on, I = 0
+        ",
+    ),
+    case(
+        "m = 1, interrupt 10: this store ends no pass, the next one does",
+        1,
+        "
+        write 16 00H 1; write 16 04H 250BH; trigger; look 0 = 10000H; read 16 00H = 1
+        advance 64; trigger; read 16 00H = 3; write 16 00H 8001H; read 16 00H = 1
+        advance 64; trigger; read 16 00H = 3; write 16 00H 8001H
+        write 16 04H 200BH; write 16 04H 250BH; trigger; read 16 00H = 1   # once more
+        advance 64; trigger; read 16 00H = 3
+        ",
+    ),
+    case(
+        "m = 2, interrupt 10: the pass ends with conversion 1",
+        1,
+        "
+        write 16 04H 250BH; write 16 10H 0504H; trigger; read 16 00H = 0; read 16 14H = 0010H
+        advance 64; trigger; read 16 00H = 0; read 16 14H = 0010H; read 16 1CH = 0010H
+        advance 64; trigger; read 16 00H = 2; read 16 14H = 0030H; write 16 00H 8000H
+        advance 64; trigger; read 16 00H = 0
+        advance 64; trigger; read 16 00H = 2
+        ",
+    ),
+    case(
+        "interrupt 01: this store interrupts, with one channel and with more; 00: it does not",
+        1,
+        "
+        write 16 04H 150BH; trigger; read 16 00H = 2; write 16 00H 8000H
+        advance 64; trigger; read 16 00H = 2; write 16 00H 8001H
+        write 16 04H 100BH; write 16 04H 150BH; write 16 10H 0300H
+        trigger; read 16 00H = 3; write 16 00H 8001H
+        advance 64; trigger; read 16 00H = 3; write 16 00H 8001H
+        write 16 04H 000BH; write 16 04H 050BH; trigger; read 16 00H = 1
+        ",
+    ),
+    case(
+        "differential: the Start Channel's slot, then odd passes in the second half",
+        1,
+        "
+        write 16 04H 0503H; write 16 10H 0302H
+        trigger; read 16 14H = 0004H; read 16 18H = 0; read 16 1CH = 0
+        advance 64; trigger; read 16 14H = 0004H; read 16 18H = 0; read 16 1CH = 0004H   # conversion 0
+        advance 64; trigger; read 16 14H = 000CH; read 16 18H = 0
+        advance 64; trigger; read 16 18H = 0004H; advance 64; trigger; read 16 18H = 000CH
+        read 16 1CH = 0004H; read 16 20H = 0
+        advance 64; trigger; read 16 1CH = 0004H; advance 64; trigger; read 16 1CH = 000CH
+        advance 64; trigger; read 16 20H = 0004H
+        ",
+    ),
+    case(
+        "differential, one channel: conversion 1 goes to slot 16",
+        1,
+        "
+        input 0 5,000,000; write 16 04H 0503H; trigger; look 0 = 10000H; look 16 = 0
+        input 0 -5,000,000; advance 64; trigger; look 0 = 3C000H; look 16 = 0
+        input 0 2,500,000; advance 64; trigger; look 0 = 3C000H; look 16 = 14000H
+        advance 64; trigger; look 0 = 3A000H; look 16 = 14000H
+        ",
+    ),
+    case(
+        "differential, after a scan that was stopped in an odd pass: the first half",
+        1,
+        "
+        input 0 5,000,000; write 16 04H 0301H; write 16 24H 1; advance 64 = 1; input 0 -5,000,000
+        advance 56; write 16 04H 0001H    # conversion 1, for slot 16, begins at 120
+        write 16 04H 0503H; trigger; look 0 = 34000H; look 16 = 0
+        ",
+    ),
+    case(
+        "bits left from an older cycle survive",
+        1,
+        "
+        write 16 04H 0309H; write 16 10H 0200H; write 16 24H 1
+        advance 544 = 5                   # slots 0, 1, 2, 0 and 1
+        write 16 04H 0009H; read 16 14H = 0007H; read 16 1CH = 0003H
+        write 16 04H 050BH; write 16 10H 0303H; trigger   # a clean slot: New only
+        read 16 14H = 000FH; read 16 1CH = 0003H; look 3 = 18000H; look 0 = 38000H; look 2 = 18000H
+        write 16 04H 0009H; write 16 04H 050BH; write 16 10H 0202H; trigger   # a New slot: Missed
+        read 16 14H = 000FH; read 16 1CH = 0007H; look 2 = 38000H
+        write 16 04H 0009H; write 16 04H 050BH; write 16 24H 1   # Start Convert clears them all, as before
+        read 16 14H = 0; read 16 1CH = 0
+        ",
+    ),
+    case(
+        "a look between this store and the next takes nothing",
+        1,
+        "
+        write 16 04H 050BH; trigger; look 0 = 10000H; look 0 = 10000H; look 32 refused 22
+        advance 64; trigger; look 0 = 38000H; read 16 1CH = 1
+        ",
+    ),
+    case(
+        "a clear or a mailbox read between this store and the next prevents Missed",
+        1,
+        "
+        write 16 04H 050BH; trigger; clear 0; look 0 = 0
+        advance 64; trigger; look 0 = 18000H; read 16 1CH = 0
+        reset; write 16 04H 050AH; trigger; read 16 80H = 8000H; look 0 = 8000H
+        advance 64; trigger; look 0 = 10000H; read 16 1CH = 0
+        reset; write 16 04H 050AH; trigger; read 8 81H = 80H
+        advance 64; trigger; look 0 = 10000H
+        reset; write 16 04H 050BH; trigger; clear 1; clear 16
+        advance 64; trigger; look 0 = 38000H   # of other slots they are no help
+        ",
+    ),
+    case(
+        "the cycle is armed: 6 for what a running cycle refuses",
+        1,
+        "
+        write 16 04H 050BH; trigger; write 16 24H 1 refused 6; write 8 24H FFH refused 6
+        write 32 24H 1 refused 6; write 16 04H 050BH refused 6; write 8 05H 05H refused 6
+        write 8 04H 0AH refused 6; write 16 08H 0 refused 6; write 16 0CH 1 refused 6
+        write 16 10H 0 refused 6; write 16 40H 0 refused 6; write 16 4CH 0 refused 6
+        write 16 04H 000FH refused 7; write 16 80H 0 refused 5
+        write 16 24H 0; write 16 24H FFFEH; write 8 25H 1; write 16 00H 1; write 16 00H 8001H
+        read 16 00H = 1; read 16 04H = 050BH; read 16 14H = 1; look 0 = 10000H
+        advance 64; trigger; look 0 = 38000H   # none of this was a start or a stop
+        write 16 04H 000BH; write 16 0CH 1; look 0 = 38000H
+        ",
+    ),
+    case(
+        "triggers 63 ticks after it are ignored, 64 ticks after it taken",
+        1,
+        "
+        write 16 04H 050BH; trigger; read 16 80H = 0; trigger; read 16 14H = 0   # no tick after it
+        advance 63; trigger; read 16 14H = 0; advance 1; trigger; read 16 14H = 1; read 16 80H = 8000H
+        advance 63; trigger; read 16 14H = 0; advance 1; trigger; read 16 14H = 1
+        advance 16,777,216; read 16 80H = 8000H; trigger; read 16 14H = 1   # none comes by itself
+        ",
+    ),
+    case(
+        "a stop and the same again: each stores the code last taken",
+        1,
+        "
+        input 0 5,000,000; write 16 04H 050BH; trigger; look 0 = 10000H
+        write 16 04H 000BH; write 16 04H 050BH
+        trigger; look 0 = 3C000H          # in the same tick: 64 ticks are counted inside a cycle
+        input 0 -5,000,000; advance 64; trigger; look 0 = 3C000H   # conversion 0, taken before the change
+        write 8 05H 0; clear 0; write 8 05H 5; trigger; look 0 = 14000H
+        write 8 05H 0; clear 0; write 8 05H 5; trigger; look 0 = 14000H
+        ",
+    ),
+    case(
+        "a reset forgets the code",
+        1,
+        "
+        input 0 5,000,000; write 16 04H 0409H; write 16 24H 1; advance 64 = 1; look 0 = 1C000H
+        reset; write 16 04H 050BH; trigger; look 0 = 10000H
+        reset; write 16 04H 050AH; trigger; look 0 = 18000H
+        advance 64; trigger; look 0 = 34000H   # the input stays: C000H, flipped
+        reset; write 16 04H 050BH; trigger; look 0 = 10000H; advance 64; trigger; look 0 = 3C000H
+        ",
+    ),
+    case(
+        "trigger field 00 or 10: ignored, and the board stays idle",
+        1,
+        "
+        write 16 04H 0509H; trigger; write 16 0CH 1; write 16 04H 050DH; trigger; write 16 0CH 1
+        read 16 14H = 0; write 16 04H 050BH; trigger; write 16 0CH 1 refused 6; look 0 = 10000H
+        ",
+    ),
+    case(
+        "the store comes first, then conversion 0's code, with the input then in force",
+        1,
+        "
+        input 0 5,000,000; write 16 04H 0409H; write 16 24H 1; advance 64 = 1; write 16 04H 050BH
+        input 0 -5,000,000; trigger; look 0 = 3C000H   # the change does not show in this store
+        input 0 2,500,000; advance 64; trigger; look 0 = 34000H
+        advance 64; trigger; look 0 = 3A000H
+        ",
+    ),
+    case(
+        "the format in force at the store counts",
+        1,
+        "
+        input 0 -1                        # 01's bench case: 7FFFH, FFFFH in two's complement
+        write 16 04H 0409H; write 16 24H 1; advance 64 = 1; look 0 = 17FFFH
+        write 16 04H 050AH; trigger; look 0 = 3FFFFH
+        write 16 04H 0009H; write 16 04H 050BH; trigger; look 0 = 37FFFH
+        write 16 04H 0008H; write 16 04H 0408H; write 16 24H 1; advance 64 = 1; look 0 = 1FFFFH
+        write 16 04H 050BH; trigger; look 0 = 37FFFH
+        ",
+    ),
+    case(
+        "Start Convert and a stop without a trigger leave the code of before",
+        1,
+        "
+        input 0 5,000,000; write 16 04H 0409H; write 16 24H 1; advance 64 = 1; input 0 -5,000,000
+        write 16 04H 050BH; write 16 24H 1; look 0 = C000H; write 16 04H 000BH
+        write 16 04H 050BH; trigger; look 0 = 1C000H
+        write 16 04H 000BH; write 16 04H 050BH; write 16 24H 1   # armed so, the first trigger stores nothing
+        trigger; look 0 = C000H; advance 64; trigger; look 0 = 14000H
+        ",
+    ),
+    case(
+        "calibration and gain: slot 31, and conversion 0 with both",
+        3,
+        "
+        write 16 4CH C000H; write 16 10H 1F1FH; write 16 04H 0533H; trigger; look 31 = 10000H
+        advance 64; trigger; look 31 = 37D70H   # 612,500 uV at gain 8 in range 3: 32112
+        write 16 04H 0033H; clear 31; write 16 04H 0532H; trigger; look 31 = 1FD70H   # flipped
         ",
     ),
 ];

@@ -4,8 +4,8 @@
 use crate::board::{Board, LONGEST_ADVANCE};
 use crate::call::Call;
 use crate::random::Random;
-use crate::registers::{Registers, BURST_CONTINUOUS, BURST_SINGLE, TRIGGER_ONLY};
-use crate::registers::{UNIFORM_CONTINUOUS, UNIFORM_SINGLE};
+use crate::registers::{Registers, BURST_CONTINUOUS, BURST_SINGLE, SCAN_OFF};
+use crate::registers::{TRIGGER_ONLY, UNIFORM_CONTINUOUS, UNIFORM_SINGLE};
 
 /// Advances around a conversion's 64 ticks and a burst's 120.
 pub const MARKED_ADVANCES: [u32; 6] = [63, 64, 65, 119, 120, 121];
@@ -23,6 +23,8 @@ pub struct Maker {
     calls: Vec<Call>,
     /// No accepted advance is longer than this.
     longest: u32,
+    /// Are triggers before arming made (02, A4)? If not, the draws are those of before A4.
+    arms_by_trigger: bool,
 }
 
 /// A list of so many scenes, on a new board of this range.
@@ -74,7 +76,7 @@ pub fn sprint(random: Random, range: u32) -> Vec<Call> {
 
 /// A list of so many cycles, each with a few advances of up to 2^24 ticks.
 pub fn long_advances(random: Random, range: u32, count: u32) -> Vec<Call> {
-    let mut maker = Maker::new(random, range, LONGEST_ADVANCE);
+    let mut maker = Maker::without_arming_by_trigger(random, range, LONGEST_ADVANCE);
     for _ in 0..count {
         let scan = maker.random.pick(&[UNIFORM_CONTINUOUS, BURST_CONTINUOUS]);
         maker.write(16, 0x04, 0);
@@ -90,9 +92,19 @@ pub fn long_advances(random: Random, range: u32, count: u32) -> Vec<Call> {
     maker.calls
 }
 
+/// A list of so many scenes with advances of up to 2,000 ticks.
+pub fn short_advances(random: Random, range: u32, count: u32) -> Vec<Call> {
+    let mut maker = Maker::without_arming_by_trigger(random, range, 2_000);
+    for _ in 0..count {
+        maker.scene();
+    }
+    maker.read_out();
+    maker.calls
+}
+
 /// A list of so many cycles, each with steps and advances of up to 5,000 ticks in turn.
 pub fn middle_advances(random: Random, range: u32, count: u32) -> Vec<Call> {
-    let mut maker = Maker::new(random, range, 5_000);
+    let mut maker = Maker::without_arming_by_trigger(random, range, 5_000);
     for _ in 0..count {
         maker.begin_a_scene();
         for _ in 0..maker.random.between(3, 18) {
@@ -134,6 +146,7 @@ pub fn next_calls(random: Random, board: &Board) -> Vec<Call> {
         board: board.clone(),
         calls: Vec::new(),
         longest: LONGEST_ADVANCE,
+        arms_by_trigger: true,
     };
     let seldom = if board.is_idle() { 6 } else { 40 };
     if maker.random.one_in(seldom) {
@@ -153,6 +166,15 @@ impl Maker {
             board,
             calls: Vec::new(),
             longest,
+            arms_by_trigger: true,
+        }
+    }
+
+    /// For the lists of the benchmark: an older archive plays them too, and it ignores triggers before arming.
+    fn without_arming_by_trigger(random: Random, range: u32, longest: u32) -> Maker {
+        Maker {
+            arms_by_trigger: false,
+            ..Maker::new(random, range, longest)
         }
     }
 
@@ -345,7 +367,8 @@ impl Maker {
 
     fn start(&mut self) {
         let control = self.board.registers().control;
-        let can_be_triggered = control.trigger() == 0b01 && control.scan() != TRIGGER_ONLY;
+        let takes_triggers = control.scan() != TRIGGER_ONLY || self.arms_by_trigger;
+        let can_be_triggered = control.trigger() == 0b01 && takes_triggers;
         if can_be_triggered && self.random.one_in(2) {
             self.push(Call::Trigger);
             return;
@@ -379,7 +402,8 @@ impl Maker {
 impl Maker {
     fn step(&mut self) {
         let is_armed = !self.board.is_idle() && self.scan() == TRIGGER_ONLY;
-        match self.random.below(112) {
+        let choices = 112 + u32::from(self.arms_by_trigger);
+        match self.random.below(choices) {
             0..=19 if is_armed => self.push(Call::Trigger),
             20..=34 if is_armed => self.volley(),
             0..=39 => self.advance(),
@@ -394,8 +418,63 @@ impl Maker {
             81..=87 => self.touch_a_register(),
             88..=97 => self.look_or_clear(),
             98 | 99 => self.look_between_stores(),
+            112 => self.arm_by_trigger(),
             _ => self.refused_call(),
         }
+    }
+
+    /// A trigger in external trigger only mode with no Start Convert before it: its store has the code that
+    /// was last taken. Sometimes a stop and the same again.
+    fn arm_by_trigger(&mut self) {
+        for _ in 0..self.random.pick(&[1, 1, 2]) {
+            self.stop_or_reset();
+            let control = self.any_control(TRIGGER_ONLY);
+            self.write_word(0x04, control);
+            if self.random.one_in(2) {
+                let channels = self.any_channels(control >> 3 & 0b111 == 0);
+                self.write_word(0x10, channels);
+            }
+            if self.random.one_in(2) {
+                self.set_input();
+            }
+            if self.random.one_in(2) {
+                self.write(16, 0x00, 0x8001);
+            }
+            self.push(Call::Trigger);
+            self.after_arming_by_trigger();
+        }
+    }
+
+    /// A stop, if a cycle runs, in either format; at times a trigger after it, with the scan off. Or a reset,
+    /// which forgets the code.
+    fn stop_or_reset(&mut self) {
+        if self.random.one_in(8) {
+            return self.push(Call::Reset);
+        }
+        if !self.board.is_idle() {
+            let word = self.board.registers().control.word() & 0x383E;
+            let format = self.random.below(2);
+            self.write_word(0x04, word | format);
+        }
+        if self.scan() == SCAN_OFF && self.random.one_in(2) {
+            self.push(Call::Trigger);
+        }
+    }
+
+    /// What may come between its store and the next, and a trigger about as close as it may come.
+    fn after_arming_by_trigger(&mut self) {
+        let start = self.board.registers().start as u8;
+        match self.random.below(10) {
+            0..=2 => self.look_or_clear_at(start),
+            3 => self.read_word(0x80 + 4 * u16::from(start)),
+            4 => self.write(16, 0x24, 1),
+            5 => self.change_while_busy(),
+            6 => self.touch_a_register(),
+            _ => (),
+        }
+        let ticks = self.random.pick(&[63, 64, 64, 65]);
+        self.advance_by(ticks);
+        self.push(Call::Trigger);
     }
 
     /// Triggers about as close as they may come.
@@ -737,5 +816,42 @@ impl Maker {
             2 => self.write(width, offset, (bits >> 16) as u32),
             _ => self.look_or_clear_at(bits as u8),
         }
+    }
+}
+
+#[cfg(test)]
+mod tests {
+    use super::*;
+    use crate::before_arming::arms_by_trigger;
+    use crate::call::Step;
+
+    /// Triggers before arming in a list, cycles armed by Start Convert, and triggers.
+    fn counted(calls: &[Call]) -> [usize; 3] {
+        let mut board = Board::new(1).0;
+        let mut counts = [0; 3];
+        for call in calls {
+            let before = board.clone();
+            board.call(call);
+            let arms = arms_by_trigger(&Step::of(call), &before, &board);
+            let is_armed = !board.is_idle() && board.registers().control.scan() == TRIGGER_ONLY;
+            let is_trigger = *call == Call::Trigger;
+            counts[0] += usize::from(arms);
+            counts[1] += usize::from(before.is_idle() && is_armed && !is_trigger);
+            counts[2] += usize::from(is_trigger);
+        }
+        counts
+    }
+
+    /// The lists that `benchmark.rs` has.
+    #[test]
+    fn lists_for_the_benchmark_have_no_trigger_before_arming() {
+        let short = counted(&short_advances(Random::new(1), 1, 5_000));
+        let middle = counted(&middle_advances(Random::new(3), 1, 3_000));
+        let long = counted(&long_advances(Random::new(2), 1, 300));
+        assert_eq!([short[0], middle[0], long[0]], [0, 0, 0]);
+        assert!(short[1] > 500 && short[2] > 5_000, "{short:?}");
+        assert!(middle[1] > 300 && middle[2] > 3_000, "{middle:?}");
+        let scenes = counted(&scenes(Random::new(1), 1, 2_000, 500));
+        assert!(scenes[0] > 50 && scenes[1] > 20, "{scenes:?}");
     }
 }

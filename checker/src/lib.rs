@@ -8,12 +8,14 @@
 pub mod analog;
 pub mod any_bytes;
 pub mod archive;
+pub mod before_arming;
 pub mod board;
 pub mod call;
 pub mod cases;
 pub mod coverage;
 pub mod fraction;
 pub mod generator;
+pub mod history;
 pub mod logbook;
 pub mod looks;
 pub mod made_up;

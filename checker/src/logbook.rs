@@ -362,6 +362,7 @@ impl Logbook {
         if self.trigger_field() == 1 {
             match &self.cycle {
                 None if matches!(self.scan(), 1..=4) && self.refused_start() == 0 => self.start(),
+                None if self.scan() == 5 && self.refused_start() != 9 => self.start_by_trigger(),
                 Some(cycle) if self.scan() == 5 => {
                     let last = cycle.triggers.last().copied();
                     if last.is_none() || last.is_some_and(|last| last + 64 <= self.tick) {
@@ -383,6 +384,19 @@ impl Logbook {
         if let Some(k) = self.conversion_begun(0) {
             self.take_code(k);
         }
+    }
+
+    /// 02, A4: "begins an armed cycle without clearing any bit", with no event CycleStart: the mailbox
+    /// sentence "doesn't count such a beginning as a cycle start". It is taken trigger 0 of the cycle.
+    fn start_by_trigger(&mut self) {
+        self.cycle = Some(Cycle {
+            start: self.tick,
+            triggers: vec![self.tick],
+        });
+        // "The code last taken since reset (0 if none), formatted, in the Start Channel's slot"; it is "a store
+        // that ends no pass".
+        self.store_last_code(self.memory[0x10].into(), false);
+        self.take_code(0);
     }
 
     /// "Taken (its store first, then its code)."
@@ -408,13 +422,18 @@ impl Logbook {
         let m = self.channels_in_a_pass();
         let is_in_second_half = self.is_differential() && k / m % 2 == 1;
         let slot = self.channel_of(k) + if is_in_second_half { 16 } else { 0 };
+        self.store_last_code(slot, (k + 1) % m == 0);
+    }
+
+    /// The event of a store, in the format now in force.
+    fn store_last_code(&mut self, slot: usize, ends_pass: bool) {
         let code = match self.memory[0x04] & 1 {
             1 => self.last_code,
             _ => in_twos_complement(self.last_code),
         };
         let interrupts = match self.memory[0x05] >> 4 {
             1 => true,
-            2 => (k + 1) % m == 0,
+            2 => ends_pass,
             _ => false,
         };
         self.events.push(Event::Store {

@@ -2,6 +2,7 @@
 //! calls must reach; and that a mailbox read leaves the board that a look and then a clear leave.
 
 use crate::analog::Answer;
+use crate::before_arming::arms_by_trigger;
 use crate::board::Board;
 use crate::call::{Call, Step};
 use crate::coverage::{kind, Kind};
@@ -26,7 +27,7 @@ impl Bits {
 }
 
 /// The slots of a board, slot 0 in bit 0, that were looked at or cleared while New, with no store in
-/// them since. A cycle start or a reset begins anew.
+/// them since. A cycle start or a reset begins anew, but not a trigger before arming, which clears no bit.
 #[derive(Clone, Copy, Debug, Default)]
 pub struct Slots {
     looked: u32,
@@ -52,8 +53,14 @@ pub struct Noted {
 impl Slots {
     /// Notes a call that was made on the board.
     pub fn note(&mut self, step: Step, answer: Answer, before: &Board, after: &Board) -> Noted {
-        let conversions = stored_in(&step, answer, before, after);
-        let (stored, stored_once) = slots_of(before.registers(), conversions);
+        let arms = arms_by_trigger(&step, before, after);
+        let (stored, stored_once) = if arms {
+            let slot = 1 << before.registers().start;
+            (slot, slot)
+        } else {
+            let conversions = stored_in(&step, answer, before, after);
+            slots_of(before.registers(), conversions)
+        };
         let noted = Noted {
             step,
             answer,
@@ -64,7 +71,7 @@ impl Slots {
             stored_once,
             slots: *self,
         };
-        let starts = before.is_idle() && !after.is_idle();
+        let starts = before.is_idle() && !after.is_idle() && !arms;
         if starts || matches!(step, Step::Reset | Step::Open { .. }) {
             *self = Slots::default();
         }
@@ -85,7 +92,8 @@ pub fn scan_of_cycle(board: &Board) -> Option<u32> {
     board.cycle().map(|_| board.registers().control.scan())
 }
 
-/// The conversions stored in a call: k of the first, and of the first not stored.
+/// The conversions stored in a call: k of the first, and of the first not stored. The store of a trigger
+/// before arming is none of them.
 pub fn stored_in(step: &Step, answer: Answer, before: &Board, after: &Board) -> Range<u64> {
     let Some(cycle) = before.cycle() else {
         return 0..0;
@@ -284,6 +292,29 @@ mod tests {
             ("clear of a clean slot", 0),
             ("clear 32", 1),
             ("look 255", 1),
+        ];
+        for (name, count) in expected {
+            assert_eq!(coverage.count(name), count, "{name}");
+        }
+    }
+
+    /// 02, A4: its store comes after a look or a clear of before, for it clears no bit; and one may come
+    /// between it and the next.
+    #[test]
+    fn stores_of_triggers_before_arming() {
+        let coverage = counted(
+            "
+            write 16 04H 0409H; write 16 24H 1; advance 64 = 1; look 0 = 18000H
+            write 16 04H 050BH; trigger; look 0 = 38000H            # Missed after a look
+            advance 64; trigger; clear 0; write 16 04H 000BH; write 16 04H 050BH
+            trigger; look 0 = 18000H; advance 64; trigger           # New only after a clear, then Missed
+            ",
+        );
+        let expected = [
+            ("look between two stores of a slot", 3),
+            ("clear between two stores of a slot", 1),
+            ("look of a New slot, then a store: Missed", 2),
+            ("clear of a New slot, then a store: New only", 1),
         ];
         for (name, count) in expected {
             assert_eq!(coverage.count(name), count, "{name}");

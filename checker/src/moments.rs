@@ -2,14 +2,16 @@
 //! each of them, and the kinds of calls that those traces must reach.
 
 use crate::analog::Answer;
+use crate::before_arming::{self, arms_by_trigger};
 use crate::board::{Board, Cycle, LONGEST_ADVANCE};
 use crate::call::{Call, Step};
 use crate::coverage::{kind, Kind};
 use crate::generator::{pass_length, MARKED_ADVANCES};
-use crate::looks::{self, stored_in, Noted, Slots};
+use crate::history::{History, Noted};
+use crate::looks::{self, stored_in};
 use crate::registers::{
     Control, Register, Registers, BURST_CONTINUOUS, BURST_SINGLE, EACH_STORE, LAST_STORE_OF_A_PASS,
-    TRIGGER_INPUT, TRIGGER_ONLY, UNIFORM_CONTINUOUS, UNIFORM_SINGLE,
+    SCAN_OFF, TRIGGER_INPUT, TRIGGER_ONLY, UNIFORM_CONTINUOUS, UNIFORM_SINGLE,
 };
 use std::fmt::Write;
 use std::ops::Range;
@@ -23,11 +25,11 @@ pub struct Moment {
     noted: Noted,
 }
 
-/// Plays a call on the board, whose slots were looked at and cleared so.
-pub fn played(board: &mut Board, slots: &mut Slots, call: &Call) -> Moment {
+/// Plays a call on the board, with what came before.
+pub fn played(board: &mut Board, history: &mut History, call: &Call) -> Moment {
     let before = board.clone();
     let answer = board.call(call);
-    let noted = slots.note(Step::of(call), answer, &before, board);
+    let noted = history.note(Step::of(call), answer, &before, board);
     Moment {
         call: *call,
         answer,
@@ -85,7 +87,8 @@ impl Moment {
         }
     }
 
-    /// The conversions stored in the call: k of the first, and of the first not stored.
+    /// The conversions stored in the call: k of the first, and of the first not stored. The store of a
+    /// trigger before arming is counted apart.
     pub fn stored(&self) -> Range<u64> {
         stored_in(
             &Step::of(&self.call),
@@ -112,8 +115,13 @@ impl Moment {
         self.stored().take(64).any(is_odd)
     }
 
+    /// Is this a cycle start? A trigger before arming is none.
     fn starts(&self) -> bool {
-        self.before.is_idle() && !self.after.is_idle()
+        self.before.is_idle() && !self.after.is_idle() && !self.arms_by_trigger()
+    }
+
+    pub fn arms_by_trigger(&self) -> bool {
+        arms_by_trigger(&Step::of(&self.call), &self.before, &self.after)
     }
 
     fn is_in_flight(&self) -> bool {
@@ -169,6 +177,7 @@ pub fn all_kinds() -> Vec<Kind<Moment>> {
     kinds.extend(trigger_kinds());
     kinds.extend(ending_kinds());
     kinds.extend(look_kinds(100));
+    kinds.extend(arming_kinds(80));
     kinds
 }
 
@@ -243,11 +252,11 @@ fn scan_kinds() -> Vec<Kind<Moment>> {
             300,
             move |moment| is(moment) && moment.starts() && !moment.is_trigger(),
         ));
-        if scan != TRIGGER_ONLY {
-            kinds.push(met(format!("{name}, by a trigger"), 100, move |moment| {
-                is(moment) && moment.starts() && moment.is_trigger()
-            }));
-        }
+        // In external trigger only mode it is no cycle start.
+        let begins = move |moment: &Moment| moment.starts() || moment.arms_by_trigger();
+        kinds.push(met(format!("{name}, by a trigger"), 100, move |moment| {
+            is(moment) && begins(moment) && moment.is_trigger()
+        }));
     }
     for scan in [UNIFORM_CONTINUOUS, BURST_CONTINUOUS, TRIGGER_ONLY] {
         let name = format!("a store of the third pass or later, scan {scan:03b}");
@@ -390,27 +399,43 @@ fn trigger_kinds() -> Vec<Kind<Moment>> {
             moment.trigger_distance() == Some(distance)
         }));
     }
-    kinds.push(met("first trigger of a cycle", 300, |moment| {
-        let is_first = moment
-            .cycle()
-            .is_some_and(|cycle| cycle.last_taken.is_none());
-        moment.is_trigger() && moment.is_armed() && is_first
-    }));
+    kinds.push(met(
+        "first trigger of a cycle armed by Start Convert",
+        300,
+        |moment| {
+            let is_first = moment
+                .cycle()
+                .is_some_and(|cycle| cycle.last_taken.is_none());
+            moment.is_trigger() && moment.is_armed() && is_first
+        },
+    ));
     kinds.push(met("trigger while a timed cycle runs", 300, |moment| {
         moment.is_trigger() && moment.is_in_timed_cycle()
     }));
-    kinds.push(met(
-        "trigger 01 while idle that starts nothing",
-        300,
-        |moment| {
-            let is_input = moment.control().trigger() == TRIGGER_INPUT;
-            moment.is_trigger() && is_input && moment.before.is_idle() && moment.after.is_idle()
-        },
-    ));
-    kinds.push(met("trigger ignored for its field", 300, |moment| {
-        moment.is_trigger() && moment.control().trigger() != TRIGGER_INPUT
-    }));
+    kinds.extend(ignored_trigger_kinds());
     kinds
+}
+
+fn ignored_trigger_kinds() -> Vec<Kind<Moment>> {
+    let is_ignored = |moment: &Moment| {
+        let is_input = moment.control().trigger() == TRIGGER_INPUT;
+        moment.is_trigger() && is_input && moment.before.is_idle() && moment.after.is_idle()
+    };
+    vec![
+        met(
+            "trigger 01 while idle, scan 000: ignored",
+            200,
+            move |moment| is_ignored(moment) && moment.control().scan() == SCAN_OFF,
+        ),
+        met(
+            "trigger 01 while idle, 9 or 10 not met: ignored",
+            300,
+            move |moment| is_ignored(moment) && moment.control().scan() != SCAN_OFF,
+        ),
+        met("trigger ignored for its field", 300, |moment| {
+            moment.is_trigger() && moment.control().trigger() != TRIGGER_INPUT
+        }),
+    ]
 }
 
 fn ending_kinds() -> Vec<Kind<Moment>> {
@@ -447,7 +472,12 @@ fn ending_kinds() -> Vec<Kind<Moment>> {
 
 /// Looks and clears, and what came after them, with this least count.
 pub fn look_kinds(least: u64) -> Vec<Kind<Moment>> {
-    looks::kinds(least, |moment: &Moment| Some(&moment.noted)).collect()
+    looks::kinds(least, |moment: &Moment| Some(&moment.noted.looks)).collect()
+}
+
+/// Triggers before arming, and what came after them, with this least count.
+pub fn arming_kinds(least: u64) -> Vec<Kind<Moment>> {
+    before_arming::kinds(least, |moment: &Moment| Some(&moment.noted.arming)).collect()
 }
 
 // Reads and writes of every register, by width.

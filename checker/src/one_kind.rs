@@ -72,11 +72,35 @@ fn after(before: Vec<Call>, kind: Kind) -> Kind {
     Kind { before, ..kind }
 }
 
+fn advance_64(_: usize) -> Vec<Call> {
+    vec![Call::Advance { ticks: 64 }]
+}
+
 pub fn kinds() -> Vec<Kind> {
-    let advance_1 = |_| vec![Call::Advance { ticks: 1 }];
-    let advance_64 = |_| vec![Call::Advance { ticks: 64 }];
-    // A trigger is taken only 64 ticks after the last one: an advance comes with it.
-    let advance_and_trigger = |_| vec![Call::Advance { ticks: 64 }, Call::Trigger];
+    let mut kinds = accesses();
+    kinds.extend([
+        alone("input", (0, 0), input),
+        alone("advance of 1, idle", (0, 0), |_| {
+            vec![Call::Advance { ticks: 1 }]
+        }),
+        after(
+            scanning(),
+            alone("advance of 64, a store", (0, 1), advance_64),
+        ),
+    ]);
+    kinds.extend(triggers());
+    kinds.extend([
+        alone("reset", (0, 0), |_| vec![Call::Reset]),
+        alone("refused 3, a read", (3, 0), |_| vec![read_16(0x28)]),
+        after(
+            scanning(),
+            alone("refused 6, a write", (6, 0), |_| vec![write_16(0x0C, 1)]),
+        ),
+    ]);
+    kinds
+}
+
+fn accesses() -> Vec<Kind> {
     let mailbox = |round| vec![read_16(0x80 + 4 * (round % 32) as u16)];
     let look = |round| {
         let slot = (round % 32) as u8;
@@ -86,7 +110,6 @@ pub fn kinds() -> Vec<Kind> {
         let slot = (round % 32) as u8;
         vec![Call::Clear { slot }]
     };
-    let triggers = || started(0x0D0B);
     vec![
         alone("read of Control", (0, 0), |_| vec![read_16(0x04)]),
         alone("read of a mailbox", (0, 0), mailbox),
@@ -95,26 +118,31 @@ pub fn kinds() -> Vec<Kind> {
         alone("write of Timer", (0, 0), |round| {
             vec![write_16(0x0C, round as u32 % 65_536)]
         }),
-        alone("input", (0, 0), input),
-        alone("advance of 1, idle", (0, 0), advance_1),
-        after(
-            scanning(),
-            alone("advance of 64, a store", (0, 1), advance_64),
-        ),
+    ]
+}
+
+fn triggers() -> Vec<Kind> {
+    let armed = || started(0x0D0B);
+    // A trigger is taken only 64 ticks after the last one: an advance comes with it.
+    let advance_and_trigger = |_| vec![Call::Advance { ticks: 64 }, Call::Trigger];
+    // A trigger arms only on an idle board (02, A4): a stop and a Control write come with it.
+    let off_and_on = |_| vec![write_16(0x04, 0x080B), write_16(0x04, 0x0D0B)];
+    let off_on_and_trigger = |_| {
+        let [off, on] = [0x080B, 0x0D0B].map(|word| write_16(0x04, word));
+        vec![off, on, Call::Trigger]
+    };
+    vec![
         alone("trigger, ignored", (0, 0), |_| vec![Call::Trigger]),
+        after(armed(), alone("advance of 64, armed", (0, 0), advance_64)),
         after(
-            triggers(),
-            alone("advance of 64, armed", (0, 0), advance_64),
-        ),
-        after(
-            triggers(),
+            armed(),
             alone("the same, and trigger taken", (0, 0), advance_and_trigger),
         ),
-        alone("reset", (0, 0), |_| vec![Call::Reset]),
-        alone("refused 3, a read", (3, 0), |_| vec![read_16(0x28)]),
-        after(
-            scanning(),
-            alone("refused 6, a write", (6, 0), |_| vec![write_16(0x0C, 1)]),
+        alone("Control off and on", (0, 0), off_and_on),
+        alone(
+            "the same, and trigger that arms",
+            (0, 0),
+            off_on_and_trigger,
         ),
     ]
 }
@@ -151,7 +179,11 @@ mod tests {
             match kind.name {
                 "the same, and trigger taken" => assert_eq!(board.cycle().unwrap().begun, 10),
                 "advance of 64, armed" => assert_eq!(board.cycle().unwrap().begun, 0),
-                "trigger, ignored" => assert!(board.is_idle()),
+                "trigger, ignored" | "Control off and on" => assert!(board.is_idle()),
+                "the same, and trigger that arms" => {
+                    assert_eq!(board.cycle().unwrap().begun, 1);
+                    assert_eq!((board.new_bits(), board.missed()), (1, 1));
+                }
                 _ => (),
             }
         }

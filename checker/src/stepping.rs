@@ -1,14 +1,16 @@
 //! Boards that a simulator holds, stepped beside independent ones: four of each, with calls to them in
 //! any order, and boards that are saved, restored and swapped in between. After every call the answer, the
-//! request line, the next store and the bytes of a refusal or a look are compared, and now and then every
-//! register and slot.
+//! request line, the next store and the bytes of a refusal or a look are compared, and now and then, and after
+//! each trigger before arming, every register and slot.
 
 use crate::analog::Answer;
+use crate::before_arming;
 use crate::board::{Board, LONGEST_ADVANCE};
 use crate::call::Step;
 use crate::coverage::{kind, Coverage, Kind};
 use crate::generator::next_calls;
-use crate::looks::{self, check_reads, scan_of_cycle, Noted, Slots};
+use crate::history::{History, Noted};
+use crate::looks::{self, check_reads, scan_of_cycle};
 use crate::random::Random;
 use crate::registers::TRIGGER_ONLY;
 use crate::stepped::{changes_what_it_may, SteppedBoard};
@@ -36,7 +38,7 @@ pub struct Made {
 }
 
 pub enum Moment {
-    Made(Made),
+    Made(Box<Made>),
     Saved,
     /// Copied back, to a place where another board was or the same one.
     Restored {
@@ -52,7 +54,7 @@ pub enum Moment {
 struct Pair {
     archive: SteppedBoard,
     independent: Board,
-    slots: Slots,
+    history: History,
 }
 
 struct Boards<'a> {
@@ -63,8 +65,8 @@ struct Boards<'a> {
     /// Side by side in memory: a call that writes beside its own board hits another.
     archive: [SteppedBoard; PLACES],
     independent: [Board; PLACES],
-    /// How the slots of each were looked at and cleared.
-    slots: [Slots; PLACES],
+    /// What came before on each.
+    histories: [History; PLACES],
     saved: Vec<Pair>,
     coverage: &'a mut Coverage<Moment>,
 }
@@ -78,7 +80,7 @@ pub fn step_a_list(seed: u64, list: u32, calls: u32, coverage: &mut Coverage<Mom
         calls: 0,
         archive: [SteppedBoard::filled(0xA5); PLACES],
         independent: std::array::from_fn(|_| Board::new(0).0),
-        slots: [Slots::default(); PLACES],
+        histories: [History::default(); PLACES],
         saved: Vec::new(),
         coverage,
     };
@@ -121,29 +123,21 @@ impl Boards<'_> {
         let after = seen_of_independent(independent);
         self.calls += 1;
         let seen = seen_of_archive(&self.archive[place]);
-        let name = || format!("{}, call {}, board {place}, {step}", self.name, self.calls);
         assert!(
             (answer, seen) == (expected, after),
-            "{}: the archive answers {answer:?}, then {seen:?}, expected {expected:?}, then {after:?}",
-            name()
+            "{}, call {}, board {place}, {step}: the archive answers {answer:?}, then {seen:?}, \
+             expected {expected:?}, then {after:?}",
+            self.name,
+            self.calls
         );
-        for (other, is_before) in archive_before.iter().enumerate() {
-            let may_change = other == place && answer.number == 0;
-            let is_left = if may_change {
-                changes_what_it_may(&step, is_before, &self.archive[other])
-            } else {
-                self.archive[other] == *is_before
-            };
-            assert!(
-                is_left,
-                "{}: number {}, but board {other} has changed",
-                name(),
-                answer.number
-            );
-        }
+        self.check_what_changed(place, &step, answer, &archive_before);
         let independent = &self.independent[place];
-        let noted = self.slots[place].note(step, answer, &independent_before, independent);
-        self.coverage.note(&Moment::Made(Made {
+        let noted = self.histories[place].note(step, answer, &independent_before, independent);
+        // Its store shows in no answer.
+        if noted.arming.arms() {
+            self.compare_all(place);
+        }
+        self.coverage.note(&Moment::Made(Box::new(Made {
             step,
             answer,
             before: seen_of_independent(&independent_before),
@@ -151,7 +145,30 @@ impl Boards<'_> {
             cycle_before: scan_of_cycle(&independent_before),
             cycle_after: scan_of_cycle(independent),
             noted,
-        }));
+        })));
+    }
+
+    /// The other boards are as they were, and this one but for what the call may change.
+    fn check_what_changed(
+        &self,
+        place: usize,
+        step: &Step,
+        answer: Answer,
+        before: &[SteppedBoard; PLACES],
+    ) {
+        for (other, is_before) in before.iter().enumerate() {
+            let may_change = other == place && answer.number == 0;
+            let is_left = if may_change {
+                changes_what_it_may(step, is_before, &self.archive[other])
+            } else {
+                self.archive[other] == *is_before
+            };
+            assert!(
+                is_left,
+                "{}, call {}, board {place}, {step}: number {}, but board {other} has changed",
+                self.name, self.calls, answer.number
+            );
+        }
     }
 
     /// Every slot, register and mailbox, from copies: neither board changes. Mailboxes are read last.
@@ -239,7 +256,7 @@ impl Boards<'_> {
         self.saved.push(Pair {
             archive: self.archive[place],
             independent: self.independent[place].clone(),
-            slots: self.slots[place],
+            history: self.histories[place],
         });
         self.coverage.note(&Moment::Saved);
     }
@@ -253,12 +270,12 @@ impl Boards<'_> {
         let Pair {
             archive,
             independent,
-            slots,
+            history,
         } = self.saved[which].clone();
         let is_other = self.archive[place] != archive;
         self.archive[place] = archive;
         self.independent[place] = independent;
-        self.slots[place] = slots;
+        self.histories[place] = history;
         self.coverage.note(&Moment::Restored { is_other });
     }
 
@@ -266,7 +283,7 @@ impl Boards<'_> {
         let other = self.any_place();
         self.archive.swap(place, other);
         self.independent.swap(place, other);
-        self.slots.swap(place, other);
+        self.histories.swap(place, other);
         if place != other {
             self.coverage.note(&Moment::Swapped);
         }
@@ -334,7 +351,7 @@ impl Made {
         next > 0 && self.ticks().map(i64::from) == Some(next + more)
     }
 
-    fn starts_a_cycle(&self) -> bool {
+    fn begins_a_cycle(&self) -> bool {
         self.cycle_before.is_none() && self.cycle_after.is_some()
     }
 }
@@ -433,8 +450,13 @@ fn kinds_of_cycles() -> Vec<Kind<Moment>> {
         made("none to come, idle", 1_000, |made| {
             made.after.next_store == 0 && made.cycle_after.is_none()
         }),
-        made("cycle started by a trigger", 50, |made| {
-            made.starts_a_cycle() && made.step == Step::Trigger
+        made("cycle started by a trigger, scan 001 to 100", 50, |made| {
+            let is_timed = made.cycle_after != Some(TRIGGER_ONLY);
+            made.begins_a_cycle() && made.step == Step::Trigger && is_timed
+        }),
+        made("cycle armed by Start Convert", 300, |made| {
+            let is_armed = made.cycle_after == Some(TRIGGER_ONLY);
+            made.begins_a_cycle() && made.step != Step::Trigger && is_armed
         }),
         made("cycle ended by its last store", 500, |made| {
             made.cycle_before.is_some() && made.cycle_after.is_none() && made.ticks().is_some()
@@ -478,9 +500,16 @@ fn kinds_of_copies() -> Vec<Kind<Moment>> {
     ]
 }
 
-fn noted_of(moment: &Moment) -> Option<&Noted> {
+fn look_of(moment: &Moment) -> Option<&looks::Noted> {
     match moment {
-        Moment::Made(made) => Some(&made.noted),
+        Moment::Made(made) => Some(&made.noted.looks),
+        _ => None,
+    }
+}
+
+fn arming_of(moment: &Moment) -> Option<&before_arming::Noted> {
+    match moment {
+        Moment::Made(made) => Some(&made.noted.arming),
         _ => None,
     }
 }
@@ -493,6 +522,7 @@ pub fn all_kinds() -> Vec<Kind<Moment>> {
         .chain(kinds_of_cycles())
         .chain(kinds_of_the_line())
         .chain(kinds_of_copies())
-        .chain(looks::kinds(300, noted_of))
+        .chain(looks::kinds(300, look_of))
+        .chain(before_arming::kinds(300, arming_of))
         .collect()
 }

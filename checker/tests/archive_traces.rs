@@ -2,7 +2,9 @@
 //! offset, slot and Control word, and the longest trace.
 
 use checker::archive;
-use checker::call::Call;
+use checker::before_arming::arms_by_trigger;
+use checker::board::Board;
+use checker::call::{Call, Step};
 use checker::cases;
 use checker::generator::hostile;
 use checker::made_up::{check_longest, made_up, SEED, TRACES};
@@ -102,11 +104,16 @@ fn shown(answer: &[u8]) -> String {
 fn made_up_traces() {
     let seed = seed_or(SEED);
     let mut numbers = [0; 21];
+    let mut arming = 0;
     for index in 0..TRACES {
         let made = made_up(seed, index);
         let name = format!("seed {seed}, trace {index}");
         let result = compare(&name, &made.trace, &made.answers);
-        numbers[(result % 256) as usize] += 1;
+        let number = result % 256;
+        numbers[number as usize] += 1;
+        if number == 0 {
+            arming += triggers_before_arming(&made.trace);
+        }
         if index % 16 == 0 {
             // Nothing is left over from what was played before.
             let name = format!("{name}, played again");
@@ -117,6 +124,20 @@ fn made_up_traces() {
     for number in [0, 18, 19, 20] {
         println!("{:>9}  number {number}", numbers[number]);
     }
+    println!("{arming:>9}  triggers before arming in those that are played");
+    assert!(arming > 1_000);
+}
+
+/// How many triggers of a trace begin an armed cycle (02, A4).
+fn triggers_before_arming(trace: &[u8]) -> usize {
+    let (range, calls) = decoded(trace).expect("it was played");
+    let mut board = Board::new(range).0;
+    let arms = |call: &&Call| {
+        let before = board.clone();
+        board.call(call);
+        arms_by_trigger(&Step::of(call), &before, &board)
+    };
+    calls.iter().filter(arms).count()
 }
 
 /// The cases of 01 and MANUALS.md: here the answers are typed in, not worked out.
@@ -172,11 +193,12 @@ fn every_heading_and_field() {
     }
 }
 
-/// Boards to ask from: idle, scanning, armed.
-const STARTS: [&str; 3] = [
+/// Boards to ask from: idle, scanning, armed, armed by a trigger.
+const STARTS: [&str; 4] = [
     "write 16 04H 1401H",
     "write 16 00H 1; write 16 04H 1309H; write 16 24H 1; advance 184",
     "write 16 04H 2503H; write 16 24H 1; trigger; advance 64; trigger",
+    "write 16 04H 2502H; trigger; advance 64; trigger; advance 64",
 ];
 
 fn started(start: &str) -> Vec<Call> {
@@ -228,7 +250,8 @@ fn every_slot() {
     }
 }
 
-/// Every word written to Control, channels, Interrupt and Start Convert, with what is left of it.
+/// Every word written to Control, channels, Interrupt and Start Convert, with what is left of it and what a
+/// trigger and time then do.
 #[test]
 fn every_word_of_the_registers_that_are_asked() {
     for start in STARTS {
@@ -244,6 +267,10 @@ fn every_word_of_the_registers_that_are_asked() {
                 });
                 calls.extend(
                     [0x00, 0x04, 0x10, 0x14].map(|offset| Call::Read { width: 16, offset }),
+                );
+                calls.push(Call::Trigger);
+                calls.extend(
+                    [0x00, 0x14, 0x18, 0x80].map(|offset| Call::Read { width: 16, offset }),
                 );
                 calls.push(Call::Advance { ticks: 120 });
             }

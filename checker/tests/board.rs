@@ -1,4 +1,4 @@
-//! Cases of 01, 02 (A2) and MANUALS.md on the independent board, by all of its routes: call by call, by
+//! Cases of 01, 02 (A2, A4) and MANUALS.md on the independent board, by all of its routes: call by call, by
 //! the logbook, and as a trace.
 
 use checker::analog::{code, Answer};
@@ -185,6 +185,37 @@ fn the_events_of_a_look_and_a_clear() {
     }
     let read = Event::Read { slot: 5 };
     assert_eq!(logbook.events, [Event::Reset, read, read]);
+}
+
+#[test]
+fn triggers_before_arming() {
+    check(cases::BEFORE_ARMING);
+}
+
+/// 02, A4: the beginning is no cycle start, and its store is one like others, which ends no pass. An ignored
+/// trigger is no event.
+#[test]
+fn the_events_of_a_trigger_before_arming() {
+    let mut logbook = Logbook::new(1);
+    let ignored = "write 16 10H 0203H; write 16 04H 2502H; trigger; write 16 10H 0303H; write 16 04H 2500H; trigger";
+    let taken =
+        "write 16 04H 2502H; trigger; advance 63; trigger; advance 1; trigger; advance 64; trigger";
+    for step in steps(ignored).into_iter().chain(steps(taken)) {
+        assert_eq!(logbook.call(&step.call), step.expected);
+    }
+    let store = |slot, code, interrupts| Event::Store {
+        slot,
+        code,
+        interrupts,
+    };
+    // 0 formatted; then conversions 0 and 1, passes of one channel each, of 0 uV.
+    let stores = [
+        store(3, 0x8000, false),
+        store(3, 0, true),
+        store(19, 0, true),
+    ];
+    assert_eq!(logbook.events[0], Event::Reset);
+    assert_eq!(logbook.events[1..], stores);
 }
 
 #[test]

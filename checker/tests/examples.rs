@@ -35,8 +35,8 @@ fn trace_of_text(text: &str) -> Vec<u8> {
 fn each_example_prints_what_is_stored() {
     let paths = examples();
     assert!(
-        paths.len() >= 7,
-        "the first trace, the five scan modes and the front panel"
+        paths.len() >= 8,
+        "the first trace, the five scan modes, the front panel and the trigger before arming"
     );
     for path in paths {
         let text = fs::read_to_string(&path).expect("the calls");

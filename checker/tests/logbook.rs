@@ -1,8 +1,11 @@
 //! The independent board against 01's logbook, which goes tick by tick and shares nothing with it
 //! but the figures behind the code of a voltage: the checker's own check.
 
+use checker::analog::Answer;
+use checker::before_arming::{self, Arming};
 use checker::board::{Board, LONGEST_ADVANCE};
-use checker::call::Call;
+use checker::call::{Call, Step};
+use checker::coverage::Coverage;
 use checker::generator::scenes;
 use checker::logbook::{Event, Logbook};
 use checker::random::{seed_or, Random};
@@ -25,7 +28,7 @@ impl Pair {
     }
 
     /// The same answer from both, and a board that a refused call leaves as it was.
-    fn call(&mut self, call: &Call, name: &str) {
+    fn call(&mut self, call: &Call, name: &str) -> Answer {
         let before = self.board.clone();
         let answer = self.board.call(call);
         let expected = self.logbook.call(call);
@@ -38,6 +41,7 @@ impl Pair {
             self.logbook.is_idle(),
             "{name}, {call}: idle"
         );
+        answer
     }
 
     /// Everything that can be read, without changing either of the two.
@@ -60,16 +64,21 @@ fn drawn_lists_of_calls() {
     let seed = seed_or(64);
     let mut random = Random::new(seed);
     let (mut calls, mut stores, mut refused) = (0, 0, 0);
+    let arming_kinds = before_arming::kinds(200, |noted: &before_arming::Noted| Some(noted));
+    let mut coverage = Coverage::new(arming_kinds.collect());
     for index in 0..LISTS {
         let range = random.below(4);
         let own = Random::new(random.bits());
         let longest = random.pick(&[500, 2_000, 2_000, 8_000]);
         let list = scenes(own, range, longest, 1 + random.below(5));
-        let mut pair = Pair::new(range);
+        let (mut pair, mut arming) = (Pair::new(range), Arming::default());
         for (position, call) in list.iter().enumerate() {
             let name = format!("seed {seed}, list {index}, call {}", position + 1);
-            pair.call(call, &name);
-            if position % 16 == 0 {
+            let before = pair.board.clone();
+            let answer = pair.call(call, &name);
+            let noted = arming.note(Step::of(call), answer, &before, &pair.board);
+            coverage.note(&noted);
+            if position % 16 == 0 || noted.arms() {
                 pair.compare_all(&name);
             }
         }
@@ -80,7 +89,9 @@ fn drawn_lists_of_calls() {
     println!(
         "{LISTS} lists drawn from seed {seed}: {calls} calls, {refused} refused, {stores} stores"
     );
+    println!("{}", coverage.table());
     assert!(calls > 800_000 && refused > 30_000 && stores > 200_000);
+    coverage.assert_all_met();
 }
 
 fn stores_of(logbook: &Logbook) -> usize {
@@ -166,12 +177,13 @@ fn long_cycles() {
     }
 }
 
-/// A board that is idle, one that scans and one that is armed, with all bits set up.
+/// A board that is idle, one that scans, one that is armed and one that a trigger armed, with all bits set up.
 fn starting_points() -> Vec<Pair> {
     let scripts = [
         "write 16 04H 1401H",
         "write 16 00H 1; write 16 04H 1309H; write 16 24H 1; advance 184 = 2",
         "write 16 04H 2503H; write 16 24H 1; trigger; advance 64; trigger",
+        "write 16 04H 2502H; trigger; advance 64; trigger; advance 64",
     ];
     let pair_of = |script: &&str| {
         let mut pair = Pair::new(1);
@@ -223,7 +235,8 @@ fn every_slot() {
     }
 }
 
-/// Every word written to Interrupt, Control, channels and Start Convert, whole and by bytes.
+/// Every word written to Interrupt, Control, channels and Start Convert, whole and by bytes, and then a
+/// trigger.
 #[test]
 fn every_word_of_the_registers_that_are_asked() {
     for start in starting_points() {
@@ -249,7 +262,12 @@ fn write_and_read_back(start: &Pair, width: u8, offset: u16, value: u32) {
         value,
     };
     pair.call(&write, "");
-    for offset in [0x00, 0x04, 0x10, 0x14] {
-        pair.call(&Call::Read { width: 16, offset }, &write.to_string());
+    let name = write.to_string();
+    let reads = [0x00, 0x04, 0x10, 0x14, 0x18].map(|offset| Call::Read { width: 16, offset });
+    // And what a trigger then does.
+    let looks = [0, 16].map(|slot| Call::Look { slot });
+    let trigger = [Call::Trigger];
+    for call in reads.iter().chain(&trigger).chain(&reads).chain(&looks) {
+        pair.call(call, &name);
     }
 }

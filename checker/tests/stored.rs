@@ -1,11 +1,11 @@
-//! The traces stored for `rt ci` are those that the independent player answers today, and looks and clears
-//! are among their calls.
+//! The traces stored for `rt ci` are those that the independent player answers today, and looks, clears and
+//! triggers before arming are among their calls.
 
 use checker::board::Board;
 use checker::coverage::Coverage;
-use checker::looks::Slots;
+use checker::history::History;
 use checker::made_up::{made_up, SEED};
-use checker::moments::{look_kinds, played};
+use checker::moments::{arming_kinds, look_kinds, played};
 use checker::stored::stored;
 use checker::trace::{decoded, play};
 use std::fs;
@@ -21,7 +21,9 @@ fn the_stored_traces_are_the_independent_players() {
 
 #[test]
 fn what_the_stored_traces_reach() {
-    let mut coverage = Coverage::new(look_kinds(2));
+    let mut kinds = look_kinds(2);
+    kinds.extend(arming_kinds(1));
+    let mut coverage = Coverage::new(kinds);
     let (mut traces, mut calls) = (0, 0);
     for index in 0..stored().traces {
         let mut made = made_up(SEED, index);
@@ -30,9 +32,9 @@ fn what_the_stored_traces_reach() {
             continue;
         }
         let (range, list) = decoded(&made.trace).expect("it was played");
-        let (mut board, mut slots) = (Board::new(range).0, Slots::default());
+        let (mut board, mut history) = (Board::new(range).0, History::default());
         for call in &list {
-            coverage.note(&played(&mut board, &mut slots, call));
+            coverage.note(&played(&mut board, &mut history, call));
         }
         traces += 1;
         calls += list.len();

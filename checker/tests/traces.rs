@@ -6,8 +6,8 @@ use checker::board::Board;
 use checker::call::Call;
 use checker::cases::{self, SEVEN_CALLS};
 use checker::coverage::Coverage;
+use checker::history::History;
 use checker::logbook::Logbook;
-use checker::looks::Slots;
 use checker::made_up::{check_longest, made_up, MadeUp, SEED, TRACES};
 use checker::moments::{all_kinds, played, Accesses};
 use checker::random::seed_or;
@@ -48,9 +48,9 @@ fn what_made_up_traces_reach() {
             continue;
         }
         let (range, list) = decoded(&made.trace).expect("it was played");
-        let (mut board, mut slots) = (Board::new(range).0, Slots::default());
+        let (mut board, mut history) = (Board::new(range).0, History::default());
         for (call, answer) in list.iter().zip(answers_of(&buffer)) {
-            let moment = played(&mut board, &mut slots, call);
+            let moment = played(&mut board, &mut history, call);
             assert_eq!(moment.answer, answer, "seed {seed}, trace {index}, {call}");
             coverage.note(&moment);
             accesses.note(&moment);
@@ -58,7 +58,9 @@ fn what_made_up_traces_reach() {
         }
         calls += list.len();
     }
-    println!("{TRACES} traces drawn from seed {seed}: {calls} calls played, {stores} stores");
+    println!(
+        "{TRACES} traces drawn from seed {seed}: {calls} calls played, {stores} conversions stored"
+    );
     println!("{}\n{}", coverage.table(), accesses.table());
     coverage.assert_all_met();
     accesses.assert_all_met(30);

@@ -10,7 +10,7 @@
 use checker::archive::{self, Player, OLD_PLAYER};
 use checker::board::LONGEST_ADVANCE;
 use checker::call::Call;
-use checker::generator::{hostile, long_advances, middle_advances, scenes};
+use checker::generator::{hostile, long_advances, middle_advances, short_advances};
 use checker::one_kind::{kinds, started, write_16, Kind};
 use checker::random::Random;
 use checker::stepped::SteppedBoard;
@@ -139,7 +139,7 @@ fn known(mut calls: Vec<Call>) -> Vec<Call> {
 fn mixed_loads() -> Vec<Load> {
     let (short, middle, long) = (Random::new(1), Random::new(3), Random::new(2));
     vec![
-        load("short advances", &known(scenes(short, 1, 2_000, 5_000))),
+        load("short advances", &known(short_advances(short, 1, 5_000))),
         load("middle advances", &known(middle_advances(middle, 1, 3_000))),
         load("long advances", &known(long_advances(long, 1, 300))),
         load("hostile, in short", &hostile(400)),
@@ -166,13 +166,30 @@ fn load_of(kind: &Kind) -> Load {
     }
 }
 
+/// Do all players know the calls of a kind, and do the same in them? An archive of before 02's A4 answers a
+/// trigger that arms alike, but ignores it: New Data shows that.
+fn is_measured(kind: &Kind) -> bool {
+    let mut calls = kind.calls(1);
+    calls.push(Call::Read {
+        width: 16,
+        offset: 0x14,
+    });
+    let load = load(kind.name, &calls);
+    let played = |play: &Player| {
+        let mut answers = vec![0; 5 * load.calls];
+        (play(&load.trace, &mut answers), answers)
+    };
+    let all: Vec<(u64, Vec<u8>)> = players().iter().map(played).collect();
+    assert!(all[0] == all[1], "{}: answers differ", kind.name);
+    all.last() == all.first()
+}
+
 fn single_kinds() {
-    let is_measured = |kind: &Kind| kind.calls(1).iter().all(is_known);
     let (measured, left_out): (Vec<Kind>, Vec<Kind>) = kinds().into_iter().partition(is_measured);
     let loads: Vec<Load> = measured.iter().map(load_of).collect();
     table("one kind of call, each", "times", &loads);
     for kind in left_out {
-        println!("  {}: not known to the old archive", kind.name);
+        println!("  {}: the old archive does not do this", kind.name);
     }
 }
 

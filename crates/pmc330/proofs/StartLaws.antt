@@ -9,7 +9,8 @@ use lib.ListN.{getD, set, replicate}
 use Rattle.pmc330_model.specs.Map.{triggerField}
 use Rattle.pmc330_model.specs.Schedule.{codeAt, formattedBy, isBurst, isTimed, isTriggerOnly}
 use Rattle.pmc330_model.specs.Questions.{hasChannels, hasInterval}
-use Rattle.pmc330_model.specs.Board.{stored, begun, freshCycle, started, triggerTaken, triggered}
+use Rattle.pmc330_model.specs.Board.{stored, begun, freshCycle, started, triggerTaken, armedByTrigger, triggered}
+use Rattle.pmc330_model.specs.Board as model
 use Rattle.pmc330_model.specs.declared.Cycle.{Cycle}
 use Rattle.pmc330_model.specs.declared.Board.{Board}
 use Rattle.pmc330.specs.Steps.{boardWith, begunCore, storedCore, Planned, begunBy}
@@ -43,7 +44,16 @@ module _ (c : Core) (inputs : List ℤ) (gains : List ℕ) where
         let fresh : Board = boardWith (withCycle c (freshCycle (c .registers))) inputs gains codes (replicate 32 0) in
         ap (λ (x : Cycle). boardWith (withCycle c x) inputs gains codes (replicate 32 0)) is ∙ sym (ap (λ (t : Bool). cond t (begun fresh) fresh) plain)
 
-  -- a trigger that is taken
+  -- the board after a store
+  module _ (codes unread : List ℕ) (slot : ℕ) (ends : Bool) (s : Core) (codesAfter unreadAfter : List ℕ) where
+    after-store :
+        s ≡ storedCore c ends → codesAfter ≡ set codes (slot % 32) (formattedBy (c .registers) (c .held))
+        → unreadAfter ≡ set unread (slot % 32) (min 2 (getD unread (slot % 32) 0 + 1))
+        → boardWith s inputs gains codesAfter unreadAfter ≡ stored slot ends (boardWith c inputs gains codes unread)
+    unfolding stored
+    after-store same codes-are unread-are = λ i. boardWith (same i) inputs gains (codes-are i) (unread-are i)
+
+  -- a trigger that is taken, and one that arms
   module _ (codes unread : List ℕ) (n : Core) where
     pub taken-waiting :
         (s : Core) (codesAfter unreadAfter : List ℕ) → s ≡ storedCore c (c .cycle .ends)
@@ -51,13 +61,24 @@ module _ (c : Core) (inputs : List ℤ) (gains : List ℕ) where
         → unreadAfter ≡ set unread (c .cycle .slot % 32) (min 2 (getD unread (c .cycle .slot % 32) 0 + 1))
         → n ≡ begunCore s inputs gains → c .cycle .waiting ≡ true
         → boardWith n inputs gains codesAfter unreadAfter ≡ triggerTaken (boardWith c inputs gains codes unread)
-    unfolding begun stored
+    unfolding begun
     taken-waiting s codesAfter unreadAfter same codes-are unread-are e waiting =
         let b : Board = boardWith c inputs gains codes unread in
-        let after : boardWith s inputs gains codesAfter unreadAfter ≡ stored (b .cycle .slot) (b .cycle .ends) b = λ i. boardWith (same i) inputs gains (codes-are i) (unread-are i) in
         ap (λ (x : Core). boardWith x inputs gains codesAfter unreadAfter) e
-        ∙ ap begun after
+        ∙ ap begun (after-store codes unread (c .cycle .slot) (c .cycle .ends) s codesAfter unreadAfter same codes-are unread-are)
         ∙ sym (ap (λ (t : Bool). begun (cond t (stored (b .cycle .slot) (b .cycle .ends) b) b)) waiting)
+
+    pub armed-fresh :
+        (s : Core) (codesAfter unreadAfter : List ℕ) (cycle : Cycle) → s ≡ storedCore c false
+        → codesAfter ≡ set codes (c .registers .start % 32) (formattedBy (c .registers) (c .held))
+        → unreadAfter ≡ set unread (c .registers .start % 32) (min 2 (getD unread (c .registers .start % 32) 0 + 1))
+        → cycle ≡ freshCycle (c .registers) → n ≡ begunCore (withCycle s cycle) inputs gains
+        → boardWith n inputs gains codesAfter unreadAfter ≡ armedByTrigger (boardWith c inputs gains codes unread)
+    unfolding begun
+    armed-fresh s codesAfter unreadAfter cycle same codes-are unread-are is e =
+        ap (λ (x : Core). boardWith x inputs gains codesAfter unreadAfter) (e ∙ ap (λ (x : Cycle). begunCore (withCycle s x) inputs gains) is)
+        ∙ ap (λ (x : Board). begun (model.withCycle x (freshCycle (c .registers))))
+        (after-store codes unread (c .registers .start) false s codesAfter unreadAfter same codes-are unread-are)
 
     pub taken-plain : n ≡ begunCore c inputs gains → c .cycle .waiting ≡ false → boardWith n inputs gains codes unread ≡ triggerTaken (boardWith c inputs gains codes unread)
     unfolding begun
@@ -82,9 +103,19 @@ module _ (b : Board) where
       ∙ ap (λ (t : Bool). cond t (started b) b) g)
 
 -- a trigger, by its tests
+abbrev triggeredWhere : Board → (acts running only : Bool) → Board
+triggeredWhere b acts running only =
+    cond acts
+    (cond running (cond (isTriggerOnly (b .registers) && eqb (b .cycle .lag) 0) (triggerTaken b) b)
+    (cond only (cond (hasChannels (b .registers)) (armedByTrigger b) b)
+    (cond (isTimed (b .registers) && hasChannels (b .registers) && hasInterval (b .registers)) (started b) b)))
+    b
+
 pub triggered-by :
-    (b : Board) (armed running : Bool) → eqb (triggerField (b .registers .control)) 1 ≡ armed → b .cycle .running ≡ running
-    → cond armed (cond running (cond (isTriggerOnly (b .registers) && eqb (b .cycle .lag) 0) (triggerTaken b) b) (cond (isTimed (b .registers) && hasChannels (b .registers) && hasInterval (b .registers)) (started b) b)) b ≡ triggered b
+    (b : Board) (acts running only : Bool) → eqb (triggerField (b .registers .control)) 1 ≡ acts → b .cycle .running ≡ running
+    → isTriggerOnly (b .registers) ≡ only → triggeredWhere b acts running only ≡ triggered b
 unfolding triggered
-triggered-by b armed running is runs =
-    sym (ap₂ (λ (t u : Bool). cond t (cond u (cond (isTriggerOnly (b .registers) && eqb (b .cycle .lag) 0) (triggerTaken b) b) (cond (isTimed (b .registers) && hasChannels (b .registers) && hasInterval (b .registers)) (started b) b)) b) is runs)
+triggered-by b acts running only is runs mode =
+    sym
+    (ap₂ (λ (t u : Bool). triggeredWhere b t u (isTriggerOnly (b .registers))) is runs
+    ∙ ap (triggeredWhere b acts running) mode)

@@ -1,4 +1,4 @@
-// A cycle starts, by Start Convert or by a trigger.
+// A cycle begins, by Start Convert or by a trigger.
 ghost use mathlib.Core.Bool.{_&&_, cond};
 ghost use mathlib.Core.List.{List};
 ghost use mathlib.Core.Path.{_≡_};
@@ -7,7 +7,7 @@ ghost use lib.Dec.{eqb};
 ghost use lib.ListN.{getD, set};
 ghost use Rattle.pmc330_model.specs.Schedule.{interval, isUniform, isTimed, isTriggerOnly, formattedBy};
 ghost use Rattle.pmc330_model.specs.Questions.{hasChannels, hasInterval};
-ghost use Rattle.pmc330_model.specs.Board.{freshCycle, started, triggerTaken, triggered};
+ghost use Rattle.pmc330_model.specs.Board.{freshCycle, started, triggerTaken, armedByTrigger, triggered};
 ghost use Rattle.pmc330.specs.Steps.{boardWith, begunCore, storedCore};
 use crate::cycle;
 use crate::fields;
@@ -133,7 +133,29 @@ fn triggered_running(
     core
 }
 
-// A trigger on an idle board.
+// A trigger on an idle board in external trigger only (02, A4), ignored if question 9 is not met: the code last taken goes into
+// the Start Channel's slot, then the armed cycle takes its first.
+fn triggered_unarmed(
+    core: Core,
+    inputs: &[i32; 32],
+    gains: &[u8; 32],
+    codes: &mut [u16; 32],
+    unread: &mut [u8; 32],
+) -> Core
+    ensures { λ n. ⌜ boardWith n (now (inputs .entry)) (now (gains .entry)) (now (codes .exit)) (now (unread .exit)) ≡ cond (hasChannels (core .registers)) (armedByTrigger (boardWith core (now (inputs .entry)) (now (gains .entry)) (now (codes .entry)) (now (unread .entry)))) (boardWith core (now (inputs .entry)) (now (gains .entry)) (now (codes .entry)) (now (unread .entry))) ⌝ }
+{
+    let r = core.registers;
+    let met = questions::has_channels(r);
+    if !met {
+        return core;
+    }
+    let cycle = fresh_cycle(r);
+    let mut next = stored(core, codes, unread, r.start, false);
+    next.cycle = cycle;
+    begun(next, inputs, gains)
+}
+
+// A trigger on an idle board, in the other modes.
 fn triggered_idle(core: Core, inputs: &[i32; 32], gains: &[u8; 32], unread: &mut [u8; 32]) -> Core
     ensures { λ n. ⌜ ((codes : List ℕ) → boardWith n (now (inputs .entry)) (now (gains .entry)) codes (now (unread .exit)) ≡ cond (isTimed (core .registers) && hasChannels (core .registers) && hasInterval (core .registers)) (started (boardWith core (now (inputs .entry)) (now (gains .entry)) codes (now (unread .entry)))) (boardWith core (now (inputs .entry)) (now (gains .entry)) codes (now (unread .entry)))) ⌝ }
 {
@@ -150,7 +172,7 @@ fn triggered_idle(core: Core, inputs: &[i32; 32], gains: &[u8; 32], unread: &mut
     started(core, inputs, gains, unread)
 }
 
-// A trigger: taken, the start of a cycle, or ignored.
+// A trigger: taken, the beginning of a cycle, or ignored.
 pub(crate) fn triggered(
     core: Core,
     inputs: &[i32; 32],
@@ -169,6 +191,9 @@ pub(crate) fn triggered(
     let running = c.running;
     if running {
         return triggered_running(core, inputs, gains, codes, unread);
+    }
+    if fields::is_trigger_only(r) {
+        return triggered_unarmed(core, inputs, gains, codes, unread);
     }
     triggered_idle(core, inputs, gains, unread)
 }

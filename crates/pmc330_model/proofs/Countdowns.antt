@@ -11,7 +11,7 @@ use Rattle.pmc330_model.specs.Words.{writtenByte, writtenWord, withWord,
 use Rattle.pmc330_model.specs.Schedule.{passLength, interval, isUniform, isBurst, isSingle, isTimed, isTriggerOnly, burstDelay}
 use Rattle.pmc330_model.specs.Calls.{Call, read, write, input, advance, trigger, reset, look, clear}
 use Rattle.pmc330_model.specs.Questions.{hasChannels, hasInterval}
-use Rattle.pmc330_model.specs.Board.{idleCycle, restarted, wordWritten, withCycle, newBoard, clearedBoard, stored, leadAfter, begun, storedInTime, elapsed, isStoreDue, isBeginningDue, storedIfDue, ticked, advanced, started, triggered, afterRead, afterWrite, afterCall, boardCall, questionsOf, boardFrom, boardAfter}
+use Rattle.pmc330_model.specs.Board.{idleCycle, restarted, wordWritten, withCycle, newBoard, clearedBoard, stored, leadAfter, begun, storedInTime, elapsed, isStoreDue, isBeginningDue, storedIfDue, ticked, advanced, freshCycle, started, triggered, afterRead, afterWrite, afterCall, boardCall, questionsOf, boardFrom, boardAfter}
 use Rattle.pmc330_model.specs.declared.Registers.{Registers}
 use Rattle.pmc330_model.specs.declared.Cycle.{Cycle}
 use Rattle.pmc330_model.specs.declared.Board.{Board}
@@ -51,12 +51,12 @@ lead-most r ends fit =
     either-most (isTimed r && not (isSingle r && ends)) (cond (isUniform r) (interval r) (120 + cond ends (burstDelay r) 0)) 0 16_711_545 step
     (omega arith)
 
-begun-bounded : (b : Board) → Bounded b → Bounded (begun b)
+begun-bounded : (b : Board) → Fitting (b .registers) → Bounded (begun b)
 unfolding begun
-begun-bounded b h =
+begun-bounded b fit =
     record {
-      registers = h .registers;
-      cycle = record { lead = lead-most (b .registers) (leb (passLength (b .registers)) (b .cycle .index + 1)) (h .registers); lag = omega arith };
+      registers = fit;
+      cycle = record { lead = lead-most (b .registers) (leb (passLength (b .registers)) (b .cycle .index + 1)) fit; lag = omega arith };
     }
 
 -- a cycle that ends, or goes on
@@ -96,7 +96,7 @@ started-bounded b h =
             lag = omega arith;
           };
     } in
-    either-bounded (isBurst (b .registers)) (begun (restarted b)) (restarted b) (begun-bounded (restarted b) fresh) fresh
+    either-bounded (isBurst (b .registers)) (begun (restarted b)) (restarted b) (begun-bounded (restarted b) (h .registers)) fresh
 
 -- ---- time and triggers
 
@@ -109,7 +109,7 @@ ticked-bounded b h =
     either-bounded (isStoreDue b) _ _ (in-time-bounded (withCycle b (elapsed (b .cycle))) later) later in
     either-bounded (b .cycle .running) _ b
     (either-bounded (isBeginningDue b && storedIfDue (isStoreDue b) (withCycle b (elapsed (b .cycle))) .cycle .running) _ _
-    (begun-bounded (storedIfDue (isStoreDue b) (withCycle b (elapsed (b .cycle)))) after)
+    (begun-bounded (storedIfDue (isStoreDue b) (withCycle b (elapsed (b .cycle)))) (after .registers))
     after)
     h
 
@@ -126,9 +126,14 @@ triggered-bounded b h =
     either-bounded (eqb (triggerField (b .registers .control)) 1) _ b
     (either-bounded (b .cycle .running) _ _
     (either-bounded (isTriggerOnly (b .registers) && eqb (b .cycle .lag) 0) _ b
-    (begun-bounded (cond (b .cycle .waiting) (stored (b .cycle .slot) (b .cycle .ends) b) b) store)
+    (begun-bounded (cond (b .cycle .waiting) (stored (b .cycle .slot) (b .cycle .ends) b) b) (store .registers))
     h)
-    (either-bounded (isTimed (b .registers) && hasChannels (b .registers) && hasInterval (b .registers)) _ b (started-bounded b h) h))
+    (either-bounded (isTriggerOnly (b .registers)) _ _
+    (either-bounded (hasChannels (b .registers)) _ b
+    (begun-bounded (withCycle (stored (b .registers .start) false b) (freshCycle (b .registers)))
+    (stored-bounded (b .registers .start) false b h .registers))
+    h)
+    (either-bounded (isTimed (b .registers) && hasChannels (b .registers) && hasInterval (b .registers)) _ b (started-bounded b h) h)))
     h
 
 -- ---- writes

@@ -1,8 +1,8 @@
 -- The stores of a logbook are those of the schedule, and its ticks those of the accepted advances.
-use mathlib.Core.Bool.{Bool, true, false, not, cond, _&&_, _||_}
+use mathlib.Core.Bool.{Bool, true, false, not, cond, _&&_}
 use mathlib.Core.List.{List, [], _∷_}
 use mathlib.Core.Logic.{_⊎_, ⊎-elim}
-use mathlib.Core.Path.{_≡_, refl, sym, ap, subst, _∙_}
+use mathlib.Core.Path.{_≡_, refl, sym, ap, ap₂, subst, _∙_}
 use Prim.Native.Nat.{ℕ, zero, suc, _+_, _-_, _≤_, _<_}
 use native.Mathlib.Nat.{add-zero, add-suc, suc-add}
 use native.Mathlib.Omega.{arith}
@@ -11,12 +11,12 @@ use lib.ListN.{length}
 use borrow.Author.Tests.{eq-eqb, ne-eqb, eqb-true, le-leb, leb-true}
 use Rattle.analog.specs.Answers.{firstNo, allMet}
 use Rattle.analog.proofs.AnswerLaws.{none-first, some-first}
-use Rattle.pmc330_model.specs.Map.{Register, unmapped, interrupt, control, prescaler, timer, channels, startConvert, newData, missedData, gain, mailbox, classOf, triggerField, scanField}
+use Rattle.pmc330_model.specs.Map.{Register, unmapped, interrupt, control, prescaler, timer, channels, startConvert, newData, missedData, gain, mailbox, classOf, triggerField}
 use Rattle.pmc330_model.specs.Words.{isRelease, isStop, isStart}
-use Rattle.pmc330_model.specs.Schedule.{isBurst, isSingle, isTimed, isTriggerOnly, channelOf, slotOf, endsPass, codeAt, formattedBy, isInterrupting, beginsAt, isScheduled, Due, none, conversion, orElse, firstFrom}
+use Rattle.pmc330_model.specs.Schedule.{isBurst, isSingle, isTimed, isTriggerOnly, channelOf, endsPass, codeAt, beginsAt, isScheduled, Due, none, conversion, orElse, firstFrom}
 use Rattle.pmc330_model.specs.Calls.{Call, read, write, input, advance, trigger, reset, look, clear}
 use Rattle.pmc330_model.specs.Questions.{callQuestions, resultingWord, hasChannels, hasInterval}
-use Rattle.pmc330_model.specs.Logbook.{Event, Running, idle, since, release, cycleStart, store, Logbook, withHappened, begins, stores, storesInTime, dueAfter, ifDue, storesDue, beginsDue, tickPasses, ticksPass, starts, isTaken, takes, triggeredIn, triggerComes, readEvent, writes, happens, isIdle, logbookQuestions, logged}
+use Rattle.pmc330_model.specs.Logbook.{Event, Running, idle, since, release, cycleStart, store, Logbook, withHappened, begins, stores, storesInTime, dueAfter, ifDue, storesDue, beginsDue, tickPasses, ticksPass, starts, isTaken, storesBefore, takes, armsByTrigger, triggeredIn, triggerComes, readEvent, writes, happens, isIdle, logbookQuestions, logged}
 use Rattle.pmc330_model.specs.Sentences.{InCycle, mayStore, storesAmong, Scheduled, isTimeless, EveryTick}
 use Rattle.pmc330_model.specs.declared.Registers.{Registers}
 use Rattle.pmc330_model.proofs.Agreement.{Startable}
@@ -106,6 +106,13 @@ tick-taken l stored due e f =
     after none f = ap (λ (x : Due). ifDue x begins (next l) .taken) f ∙ sym (given due)
     after (conversion k) f =
         ap (λ (x : Due). ifDue x begins (storesInTime k (next l)) .taken) f ∙ sym (held due k) ∙ sym (given due)
+
+-- a tick at which nothing is due
+tick-none : (l : Logbook) → ((delay : ℕ) → dueAfter delay (l .registers) (suc (l .tick)) (l .cycle) ≡ none) → tickPasses l ≡ next l
+unfolding tickPasses
+tick-none l none-due =
+    ap (λ (d : Due). beginsDue (ifDue d storesInTime (next l))) (none-due 64)
+    ∙ ap (λ (d : Due). ifDue d begins (next l)) (none-due 0)
 
 -- a mode that is not timed has no conversion in time, and neither has an idle board
 untimed-due : (delay : ℕ) (r : Registers) (tick : ℕ) (cycle : Running) → isTimed r ≡ false → dueAfter delay r tick cycle ≡ none
@@ -262,18 +269,24 @@ write-still register word l = if-starts l _ (isStart register word) (record { ma
 
 -- ---- a trigger
 
--- what holds of a logbook, of its start where it is idle, and of a trigger taken where it is armed, holds after a trigger
+-- what holds of a logbook, of its start or its arming where it is idle, and of a trigger taken where it is armed, holds after a
+-- trigger
 triggered :
-    (P : Logbook → Type 0) (l : Logbook) → P l → (l .cycle ≡ idle → P (starts l))
+    (P : Logbook → Type 0) (l : Logbook) → P l → (l .cycle ≡ idle → isTriggerOnly (l .registers) ≡ false → P (starts l))
+    → (l .cycle ≡ idle → isTriggerOnly (l .registers) ≡ true → P (armsByTrigger l))
     → ((T : ℕ) (triggers : List ℕ) → l .cycle ≡ since T triggers → isTriggerOnly (l .registers) ≡ true
     → triggerField (l .registers .control) ≡ 1 → isTaken (l .tick) triggers ≡ true → P (takes T triggers l))
     → P (triggerComes l)
 unfolding triggerComes
-triggered P l before started taken = go (eqb (triggerField (l .registers .control)) 1) refl (l .cycle) refl
+triggered P l before started armed taken = go (eqb (triggerField (l .registers .control)) 1) refl (l .cycle) refl
   where
-    starting : l .cycle ≡ idle → (start : Bool) → P (cond start (starts l) l)
-    starting e true = started e
-    starting e false = before
+    beginning :
+        l .cycle ≡ idle → (only nine start : Bool) → isTriggerOnly (l .registers) ≡ only
+        → P (cond only (cond nine (armsByTrigger l) l) (cond start (starts l) l))
+    beginning e true true start o = armed e o
+    beginning e true false start o = before
+    beginning e false nine true o = started e o
+    beginning e false nine false o = before
 
     taking : (T : ℕ) (triggers : List ℕ) → l .cycle ≡ since T triggers → triggerField (l .registers .control) ≡ 1 → (only on-time : Bool) → isTriggerOnly (l .registers) ≡ only → isTaken (l .tick) triggers ≡ on-time → P (cond (only && on-time) (takes T triggers l) l)
     taking T triggers e field true true o t = taken T triggers e o field t
@@ -282,18 +295,42 @@ triggered P l before started taken = go (eqb (triggerField (l .registers .contro
 
     go : (acts : Bool) → eqb (triggerField (l .registers .control)) 1 ≡ acts → (cycle : Running) → l .cycle ≡ cycle → P (cond acts (triggeredIn cycle l) l)
     go false e cycle c = before
-    go true e idle c = starting c (isTimed (l .registers) && hasChannels (l .registers) && hasInterval (l .registers))
+    go true e idle c =
+        beginning c (isTriggerOnly (l .registers)) (hasChannels (l .registers))
+        (isTimed (l .registers) && hasChannels (l .registers) && hasInterval (l .registers))
+        refl
     go true e (since T triggers) c = taking T triggers c (eqb-true _ _ e) (isTriggerOnly (l .registers)) (isTaken (l .tick) triggers) refl refl
 
+-- the store of a trigger takes no time
+before-tick : (j : ℕ) (l : Logbook) → storesBefore j l .tick ≡ l .tick
+before-tick zero l = refl
+before-tick (suc k) l = refl
+
 trigger-tick : (l : Logbook) → triggerComes l .tick ≡ l .tick
-trigger-tick l = triggered (λ after. after .tick ≡ l .tick) l refl (λ e. start-still l .tick) (λ T triggers e o f t. refl)
+trigger-tick l =
+    triggered (λ after. after .tick ≡ l .tick) l refl (λ e o. start-still l .tick) (λ e o. refl)
+    (λ T triggers e o f t. before-tick (length triggers) l)
 
 trigger-made : (l : Logbook) → isTriggerOnly (l .registers) ≡ false → storesAmong (triggerComes l .events) ≡ storesAmong (l .events)
 trigger-made l other =
-    triggered (λ after. storesAmong (after .events) ≡ storesAmong (l .events)) l refl (λ e. start-still l .made)
+    triggered (λ after. storesAmong (after .events) ≡ storesAmong (l .events)) l refl (λ e o. start-still l .made)
+    (λ e o. never (isTriggerOnly (l .registers)) o other)
     (λ T triggers e o f t. never (isTriggerOnly (l .registers)) o other)
 
 -- ---- the running cycle
+
+-- the triggers of a cycle that a call begins: none, or the one that begins it
+abbrev triggersAtFirst : Logbook → Call → List ℕ
+triggersAtFirst l call = cond (mayStore (l .registers) call) (l .tick ∷ []) []
+
+-- what holds of a fresh cycle holds of the cycle after a start
+start-cycle : (P : Running → Type 0) (l : Logbook) → P (since (l .tick) []) → P (starts l .cycle)
+unfolding starts
+start-cycle P l h = go (isBurst (l .registers)) (withHappened l (l .tick) (l .taken) (since (l .tick) []) (cycleStart ∷ l .events)) h
+  where
+    go : (burst : Bool) (fresh : Logbook) → P (fresh .cycle) → P (cond burst (begins 0 fresh) fresh .cycle)
+    go true fresh h = h
+    go false fresh h = h
 
 -- what holds of no cycle and of the cycle that runs holds of the cycle after any ticks
 module _ (P : Running → Type 0) (stopped : P idle) where
@@ -309,25 +346,18 @@ module _ (P : Running → Type 0) (stopped : P idle) where
       (subst P (sym (tick-is l (dueAfter 64 (l .registers) (suc (l .tick)) (l .cycle)) refl .cycle))
       (one-of (endsCycle (l .registers) (dueAfter 64 (l .registers) (suc (l .tick)) (l .cycle))) (l .cycle) h))
 
-  start-cycle : (l : Logbook) → P (since (l .tick) []) → P (starts l .cycle)
-  unfolding starts
-  start-cycle l h = go (isBurst (l .registers)) (withHappened l (l .tick) (l .taken) (since (l .tick) []) (cycleStart ∷ l .events)) h
-    where
-      go : (burst : Bool) (fresh : Logbook) → P (fresh .cycle) → P (cond burst (begins 0 fresh) fresh .cycle)
-      go true fresh h = h
-      go false fresh h = h
-
   write-cycle : (register : Register) (word : ℕ) (l : Logbook) → P (l .cycle) → (isStart register word ≡ true → P (since (l .tick) [])) → P (writes register word l .cycle)
   unfolding writes
   write-cycle register word l h fresh = go (isStart register word) refl _ refl (one-of (isStop register word) (l .cycle) h)
     where
       go : (start : Bool) → isStart register word ≡ start → (written : Logbook) → written .tick ≡ l .tick → P (written .cycle) → P (cond start (starts written) written .cycle)
-      go true e written same kept = start-cycle written (subst (λ (tick : ℕ). P (since tick [])) (sym same) (fresh e))
+      go true e written same kept = start-cycle P written (subst (λ (tick : ℕ). P (since tick [])) (sym same) (fresh e))
       go false e written same kept = kept
 
-  -- after any call that happens: a start, where it may come, begins at this tick, and a trigger taken keeps its cycle
+  -- after any call that happens: a cycle that begins, where it may, does so at this tick, and a trigger taken keeps its cycle
   call-cycle :
-      (l : Logbook) (call : Call) → firstNo (logbookQuestions l call) ≡ 0 → P (l .cycle) → (isIdle (l .cycle) ≡ true → P (since (l .tick) []))
+      (l : Logbook) (call : Call) → firstNo (logbookQuestions l call) ≡ 0 → P (l .cycle)
+      → (isIdle (l .cycle) ≡ true → P (since (l .tick) (triggersAtFirst l call)))
       → ((T : ℕ) (triggers : List ℕ) → l .cycle ≡ since T triggers → P (since T (l .tick ∷ triggers)))
       → P (happens l call .cycle)
   unfolding happens
@@ -347,30 +377,34 @@ module _ (P : Running → Type 0) (stopped : P idle) where
   call-cycle l (input channel microvolts) met h fresh more = h
   call-cycle l (advance ticks) met h fresh more = ticks-cycle ticks l h
   call-cycle l trigger met h fresh more =
-      triggered (λ after. P (after .cycle)) l h (λ e. start-cycle l (fresh (ap isIdle e))) (λ T triggers e o f t. more T triggers e)
+      triggered (λ after. P (after .cycle)) l h
+      (λ e o. start-cycle P l (subst (λ (only : Bool). P (since (l .tick) (cond only (l .tick ∷ []) []))) o (fresh (ap isIdle e))))
+      (λ e o. subst (λ (only : Bool). P (since (l .tick) (cond only (l .tick ∷ []) []))) o (fresh (ap isIdle e)))
+      (λ T triggers e o f t.
+      subst (λ (tick : ℕ). P (since T (tick ∷ triggers))) (sym (before-tick (length triggers) l)) (more T triggers e))
   call-cycle l reset met h fresh more = stopped
   call-cycle l (look slot) met h fresh more = h
   call-cycle l (clear slot) met h fresh more = h
 
--- a cycle that started at a tick, and one that runs since T
-abbrev StartedAt : (tick : ℕ) → Running → Type 0
-StartedAt tick idle = Unit
-StartedAt tick (since T triggers) = (T ≡ tick) × (triggers ≡ [])
+-- a cycle that began at a tick with some triggers taken, and one that runs since T
+abbrev StartedAt : (tick : ℕ) (first : List ℕ) → Running → Type 0
+StartedAt tick first idle = Unit
+StartedAt tick first (since T triggers) = (T ≡ tick) × (triggers ≡ first)
 
 abbrev RunsSince : (T : ℕ) → Running → Type 0
 RunsSince T idle = Unit
 RunsSince T (since later triggers) = later ≡ T
 
-started-there : (l : Logbook) (call : Call) → l .cycle ≡ idle → StartedAt (l .tick) (logged l call .cycle)
+started-there : (l : Logbook) (call : Call) → l .cycle ≡ idle → StartedAt (l .tick) (triggersAtFirst l call) (logged l call .cycle)
 started-there l call e =
-    either (λ after. StartedAt (l .tick) (after .cycle)) l call
+    either (λ after. StartedAt (l .tick) (triggersAtFirst l call) (after .cycle)) l call
     (λ met.
-    call-cycle (StartedAt (l .tick)) tt l call met now (λ free. (refl, refl))
+    call-cycle (StartedAt (l .tick) (triggersAtFirst l call)) tt l call met now (λ free. (refl, refl))
     (λ T triggers runs. let z : _≡_ {A = ℕ} 0 1 = ap (λ (c : Running). cond (isIdle c) 0 1) (sym e ∙ runs) in absurd (omega arith)))
     now
   where
-    now : StartedAt (l .tick) (l .cycle)
-    now = subst (StartedAt (l .tick)) (sym e) tt
+    now : StartedAt (l .tick) (triggersAtFirst l call) (l .cycle)
+    now = subst (StartedAt (l .tick) (triggersAtFirst l call)) (sym e) tt
 
 kept-since : (l : Logbook) (call : Call) (T : ℕ) (triggers : List ℕ) → l .cycle ≡ since T triggers → RunsSince T (logged l call .cycle)
 kept-since l call T triggers e =
@@ -386,38 +420,78 @@ kept-since l call T triggers e =
 
 -- ---- external trigger only
 
-module _ (l : Logbook) (only : isTriggerOnly (l .registers) ≡ true) where
-  taken-store :
-      (T last : ℕ) (earlier : List ℕ) → l .cycle ≡ since T (last ∷ earlier) → triggerField (l .registers .control) ≡ 1 → 64 ≤ l .tick - last
-      → logged l trigger .events
-      ≡ (store (slotOf (l .registers) (length earlier)) (formattedBy (l .registers) (l .taken))
-      (isInterrupting (l .registers) (endsPass (l .registers) (length earlier)))
-      ∷ l .events)
-  unfolding logged callQuestions firstNo happens triggerComes
-  taken-store T last earlier e field late =
-      ap (λ (t : Bool). cond t (triggeredIn (l .cycle) l) l .events) (eq-eqb _ 1 field)
-      ∙ ap (λ (c : Running). triggeredIn c l .events) e
-      ∙ ap (λ (t : Bool). cond (t && leb 64 (l .tick - last)) (takes T (last ∷ earlier) l) l .events) only
-      ∙ ap (λ (t : Bool). cond t (takes T (last ∷ earlier) l) l .events) (le-leb 64 (l .tick - last) late)
+-- a trigger on an idle board in the other modes
+abbrev otherwise : Logbook → Logbook
+otherwise l = cond (isTimed (l .registers) && hasChannels (l .registers) && hasInterval (l .registers)) (starts l) l
 
-  untaken-store :
-      isTimed (l .registers) ≡ false
+-- a trigger with field 01, by the cycle that runs
+with-field : (l : Logbook) (cycle : Running) → l .cycle ≡ cycle → triggerField (l .registers .control) ≡ 1 → logged l trigger ≡ triggeredIn cycle l
+unfolding logged callQuestions firstNo happens triggerComes
+with-field l cycle e field =
+    ap (λ (t : Bool). cond t (triggeredIn (l .cycle) l) l) (eq-eqb _ 1 field) ∙ ap (λ (c : Running). triggeredIn c l) e
+
+module _ (l : Logbook) (only : isTriggerOnly (l .registers) ≡ true) where
+  armed-is : (T : ℕ) (triggers : List ℕ) (on-time : Bool) → isTaken (l .tick) triggers ≡ on-time → triggeredIn (since T triggers) l ≡ cond on-time (takes T triggers l) l
+  armed-is T triggers on-time e = ap₂ (λ (t u : Bool). cond (t && u) (takes T triggers l) l) only e
+
+  unarmed-is : (nine : Bool) → hasChannels (l .registers) ≡ nine → triggeredIn idle l ≡ cond nine (armsByTrigger l) l
+  unarmed-is nine e = ap₂ (λ (t u : Bool). cond t (cond u (armsByTrigger l) l) (otherwise l)) only e
+
+  ignored-is :
+      ((T : ℕ) → l .cycle ≡ since T [] → triggerField (l .registers .control) ≡ 1 → ⊥)
       → ((T last : ℕ) (earlier : List ℕ) → l .cycle ≡ since T (last ∷ earlier) → triggerField (l .registers .control) ≡ 1 → 64 ≤ l .tick - last → ⊥)
-      → logged l trigger .events ≡ l .events
+      → (l .cycle ≡ idle → triggerField (l .registers .control) ≡ 1 → hasChannels (l .registers) ≡ true → ⊥)
+      → logged l trigger ≡ l
   unfolding logged callQuestions firstNo happens triggerComes
-  untaken-store untimed fails = go (eqb (triggerField (l .registers .control)) 1) refl (l .cycle) refl
+  ignored-is armed later unarmed = go (eqb (triggerField (l .registers .control)) 1) refl (l .cycle) refl
     where
-      late : (T last : ℕ) (earlier : List ℕ) → l .cycle ≡ since T (last ∷ earlier) → triggerField (l .registers .control) ≡ 1 → (on-time : Bool) → leb 64 (l .tick - last) ≡ on-time → cond on-time (takes T (last ∷ earlier) l) l .events ≡ l .events
-      late T last earlier e field true t = absurd (fails T last earlier e field (leb-true 64 (l .tick - last) t))
+      late : (T last : ℕ) (earlier : List ℕ) → l .cycle ≡ since T (last ∷ earlier) → triggerField (l .registers .control) ≡ 1 → (on-time : Bool) → leb 64 (l .tick - last) ≡ on-time → cond on-time (takes T (last ∷ earlier) l) l ≡ l
+      late T last earlier e field true t = absurd (later T last earlier e field (leb-true 64 (l .tick - last) t))
       late T last earlier e field false t = refl
 
-      go : (acts : Bool) → eqb (triggerField (l .registers .control)) 1 ≡ acts → (cycle : Running) → l .cycle ≡ cycle → cond acts (triggeredIn cycle l) l .events ≡ l .events
+      unmet : l .cycle ≡ idle → triggerField (l .registers .control) ≡ 1 → (nine : Bool) → hasChannels (l .registers) ≡ nine → cond nine (armsByTrigger l) l ≡ l
+      unmet e field true met = absurd (unarmed e field met)
+      unmet e field false met = refl
+
+      go : (acts : Bool) → eqb (triggerField (l .registers .control)) 1 ≡ acts → (cycle : Running) → l .cycle ≡ cycle → cond acts (triggeredIn cycle l) l ≡ l
       go false e cycle c = refl
-      go true e idle c = ap (λ (t : Bool). cond (t && hasChannels (l .registers) && hasInterval (l .registers)) (starts l) l .events) untimed
-      go true e (since T []) c = ap (λ (t : Bool). cond (t && true) (takes T [] l) l .events) only
+      go true e idle c = unarmed-is (hasChannels (l .registers)) refl ∙ unmet c (eqb-true _ _ e) (hasChannels (l .registers)) refl
+      go true e (since T []) c = absurd (armed T c (eqb-true _ _ e))
       go true e (since T (last ∷ earlier)) c =
-          ap (λ (t : Bool). cond (t && leb 64 (l .tick - last)) (takes T (last ∷ earlier) l) l .events) only
-          ∙ late T last earlier c (eqb-true _ _ e) (leb 64 (l .tick - last)) refl
+          armed-is T (last ∷ earlier) (leb 64 (l .tick - last)) refl ∙ late T last earlier c (eqb-true _ _ e) (leb 64 (l .tick - last)) refl
+
+-- ---- the code last taken
+
+start-runs : (l : Logbook) → isIdle (starts l .cycle) ≡ false
+start-runs l = start-cycle (λ (c : Running). isIdle c ≡ false) l refl
+
+-- what keeps it: the cycle runs on, or the code is the same
+abbrev Kept : (l after : Logbook) → Type 0
+Kept l after = after .cycle ≡ idle → after .taken ≡ l .taken
+
+write-code : (register : Register) (word : ℕ) (l : Logbook) → Kept l (writes register word l)
+unfolding writes
+write-code register word l = go (isStart register word) _ refl
+  where
+    go : (start : Bool) (written : Logbook) → written .taken ≡ l .taken → Kept l (cond start (starts written) written)
+    go true written same e = never (isIdle (starts written .cycle)) (ap isIdle e) (start-runs written)
+    go false written same e = same
+
+code-kept : (l : Logbook) (call : Call) → isTimeless call ≡ true → Kept l (happens l call)
+unfolding happens
+code-kept l (read width offset) h e = refl
+code-kept l (write width offset value) h e =
+    write-code (classOf offset) (resultingWord (l .registers) (l .gains) width offset value) l e
+code-kept l (input channel microvolts) h e = refl
+code-kept l (advance ticks) h e = never false h refl
+code-kept l trigger h e =
+    triggered (Kept l) l (λ f. refl) (λ i o f. never (isIdle (starts l .cycle)) (ap isIdle f) (start-runs l))
+    (λ i o f. never false (ap isIdle f) refl)
+    (λ T triggers i o g t f. never false (ap isIdle f) refl)
+    e
+code-kept l reset h e = never false h refl
+code-kept l (look slot) h e = refl
+code-kept l (clear slot) h e = refl
 
 -- ---- the clauses
 
@@ -433,22 +507,22 @@ other-made l reset other = refl
 other-made l (look slot) other = refl
 other-made l (clear slot) other = refl
 
--- external trigger only is scan 101, and no timed mode
-only-untimed : (r : Registers) → isTriggerOnly r ≡ true → isTimed r ≡ false
-only-untimed r only =
-    ap (λ (scan : ℕ). (eqb scan 1 || eqb scan 2) || (eqb scan 3 || eqb scan 4)) (eqb-true (scanField (r .control)) 5 only)
-
 pub scheduled :
     (l : Logbook) → ((T : ℕ) (triggers : List ℕ) → l .cycle ≡ since T triggers → Startable (l .registers)) → Scheduled l
 scheduled l startable =
     record {
-      started = λ call T triggers e f. subst (StartedAt (l .tick)) f (started-there l call e);
+      started = λ call T triggers e f. subst (StartedAt (l .tick) (triggersAtFirst l call)) f (started-there l call e);
       kept = λ call T later triggers more e f. subst (RunsSince T) f (kept-since l call T triggers e);
       timed = λ T triggers running timed. in-cycle l T triggers running timed (startable T triggers running);
-      untimed = λ untimed. tick-is l none (untimed-due 64 (l .registers) (suc (l .tick)) (l .cycle) untimed) .events;
-      whileIdle = λ stopped. tick-is l none (idle-due 64 (l .registers) (suc (l .tick)) (l .cycle) stopped) .events;
-      taken = λ T last earlier e only. taken-store l only T last earlier e;
-      untaken = λ only. untaken-store l only (only-untimed (l .registers) only);
+      untimed = λ untimed. tick-none l (λ delay. untimed-due delay (l .registers) (suc (l .tick)) (l .cycle) untimed);
+      whileIdle = λ stopped. tick-none l (λ delay. idle-due delay (l .registers) (suc (l .tick)) (l .cycle) stopped);
+      codeKept = λ call timeless. either (Kept l) l call (λ met. code-kept l call timeless) (λ e. refl);
+      first = λ T e only field. with-field l (since T []) e field ∙ armed-is l only T [] true refl;
+      taken = λ T last earlier e only field late.
+          with-field l (since T (last ∷ earlier)) e field
+          ∙ armed-is l only T (last ∷ earlier) true (le-leb 64 (l .tick - last) late);
+      unarmed = λ e only field nine. with-field l idle e field ∙ unarmed-is l only true nine;
+      ignored = ignored-is l;
       otherCalls = λ call other.
           either (λ after. storesAmong (after .events) ≡ storesAmong (l .events)) l call (λ met. other-made l call other) refl;
     }

@@ -70,6 +70,18 @@ module _ (r : Registers) where
   first-even : false ≡ inOddPass r 0
   first-even = rw (zero-div (passLength r))
 
+-- a fresh cycle in external trigger only is armed, with no trigger taken yet
+pub fresh-armed : (r : Registers) (tick : ℕ) → isTimed r ≡ false → isTriggerOnly r ≡ true → Armed r tick [] (freshCycle r)
+fresh-armed r tick timed only =
+    record {
+      timed = timed;
+      triggerOnly = only;
+      running = refl;
+      index = sym (zero-mod (passLength r));
+      odd = first-even r;
+      flight = inr (record { are = refl; waiting = refl; lag = refl });
+    }
+
 module _ (b : Board) (tick : ℕ) (cycle : Running) (events : List Event) (agrees : Agrees b tick cycle events) (startable : Startable (b .registers)) where
   -- the board with the bits cleared and the cycle fresh
   abbrev fresh : Board
@@ -120,18 +132,7 @@ module _ (b : Board) (tick : ℕ) (cycle : Running) (events : List Event) (agree
       })))
 
   armed : isTimed (b .registers) ≡ false → isTriggerOnly (b .registers) ≡ true → isBurst (b .registers) ≡ false → Started
-  armed timed only other =
-      no-burst other
-      (fresh-agrees
-      (inr
-      (record {
-        timed = timed;
-        triggerOnly = only;
-        running = refl;
-        index = sym (zero-mod (passLength (b .registers)));
-        odd = first-even (b .registers);
-        flight = inr (record { are = refl; waiting = refl; lag = refl });
-      })))
+  armed timed only other = no-burst other (fresh-agrees (inr (fresh-armed (b .registers) tick timed only)))
 
   -- "A burst's first beginning is part of the call that starts it."
   first-place : fresh .cycle .index ≡ 0 % passLength (b .registers)

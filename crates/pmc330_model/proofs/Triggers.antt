@@ -1,32 +1,39 @@
 -- A trigger: taken, the start of a cycle, or ignored, on the board as in the logbook.
 use mathlib.Core.Bool.{Bool, true, false, cond, _&&_}
-use mathlib.Core.List.{List, _∷_}
+use mathlib.Core.List.{List, [], _∷_}
 use mathlib.Core.Logic.{_⊎_, inl, inr, ⊎-elim}
-use mathlib.Core.Path.{_≡_, refl, sym, ap, subst, _∙_}
-use Prim.Native.Nat.{ℕ, _-_, _%_, _≤_, _<_}
+use mathlib.Core.Path.{_≡_, refl, sym, ap, subst}
+use Prim.Native.Nat.{ℕ, _-_, _≤_, _<_}
 use native.Mathlib.Omega.{arith}
 use lib.Dec.{eqb}
 use lib.ListN.{length}
-use borrow.Author.Tests.{eq-eqb, ne-eqb, le-leb, lt-leb}
+use borrow.Author.Tests.{eq-eqb, ne-eqb, eqb-true, le-leb, lt-leb}
 use Rattle.pmc330_model.specs.Map.{triggerField, scanField}
-use Rattle.pmc330_model.specs.Schedule.{passLength, isTimed, isTriggerOnly, inOddPass}
-use Rattle.pmc330_model.specs.Board.{stored, begun, started, triggerTaken, triggered}
-use Rattle.pmc330_model.specs.Logbook.{Event, Running, idle, since, withHappened, begins, storesBefore, isTaken, takes, triggeredIn, triggerComes}
+use Rattle.pmc330_model.specs.Schedule.{isTimed, isTriggerOnly}
+use Rattle.pmc330_model.specs.Board.{withCycle, stored, begun, freshCycle, triggerTaken, armedByTrigger, triggeredIdle, triggered}
+use Rattle.pmc330_model.specs.Logbook.{Event, Running, idle, since, storesBefore, isTaken, takesCode, takes, armsByTrigger, triggeredIn, triggerComes}
 use Rattle.pmc330_model.specs.Questions.{hasChannels, hasInterval}
 use Rattle.pmc330_model.specs.declared.Registers.{Registers}
 use Rattle.pmc330_model.specs.declared.Cycle.{Cycle}
 use Rattle.pmc330_model.specs.declared.Board.{Board}
-use Rattle.pmc330_model.proofs.Agreement.{bookOf, Memory, Startable, Timed, Waiting, Untriggered, Armed, Agrees, Related}
+use Rattle.pmc330_model.proofs.Agreement.{bookOf, Memory, Limits, Startable, Timed, Waiting, Untriggered, Armed, Agrees, Related}
 use Rattle.pmc330_model.proofs.Begins.{begins-is, begun-ends, begun-index, begun-odd, begun-slot, begun-held}
 use Rattle.pmc330_model.proofs.Cases.{never, and-left, and-right, lt-or-le}
-use Rattle.pmc330_model.proofs.Starts.{startable-of, started-agrees}
+use Rattle.pmc330_model.proofs.Starts.{startable-of, fresh-armed, started-agrees}
 use Rattle.pmc330_model.proofs.Related.{unchanged, both}
-use Rattle.pmc330_model.proofs.Stores.{storeOf, stored-memory}
+use Rattle.pmc330_model.proofs.Stores.{storeAt, slot-memory, storeOf, stored-memory}
 
 -- a mode in time is not external trigger only
 timed-not-only : (r : Registers) → isTimed r ≡ true → isTriggerOnly r ≡ false
 timed-not-only r timed =
     ne-eqb (scanField (r .control)) 5 (λ five. never (isTimed r) timed (rw five))
+
+-- external trigger only is scan 101: no timed mode, and question 10 asks nothing of it
+only-untimed : (r : Registers) → isTriggerOnly r ≡ true → isTimed r ≡ false
+only-untimed r only = rw (eqb-true (scanField (r .control)) 5 only)
+
+only-interval : (r : Registers) → isTriggerOnly r ≡ true → hasInterval r ≡ true
+only-interval r only = rw (eqb-true (scanField (r .control)) 5 only)
 
 timed-scans : (r : Registers) → isTimed r ≡ true → scanField (r .control) ≡ 0 → ⊥
 timed-scans r timed none = never (isTimed r) timed (rw none)
@@ -42,32 +49,28 @@ taken-same r tick triggers c (inl w) =
     rw (w .are, le-leb 64 (tick - w .last) late) (eq-eqb (c .lag) 0 (omega (arith, w .lag))))
     (lt-or-le (tick - w .last) 64)
 
-module _ (b : Board) (tick T : ℕ) (triggers : List ℕ) (events : List Event) (agrees : Agrees b tick (since T triggers) events)
-    (startable : Startable (b .registers)) (armed : Armed (b .registers) tick triggers (b .cycle)) where
-  -- an armed cycle after one more trigger was taken by a board that stored what waited
+-- a trigger takes its code, on a board that has stored what it had to
+module _ (s : Board) (tick T : ℕ) (triggers : List ℕ) (limits : Limits (s .registers)) (startable : Startable (s .registers))
+    (armed : Armed (s .registers) tick triggers (s .cycle)) where
   armed-after :
-      (s : Board) (later : List Event) → s .registers ≡ b .registers → s .cycle ≡ b .cycle → Memory later (s .codes) (s .unread) (s .pending)
-      → Agrees (begun s) tick (since T (tick ∷ triggers)) later
+      (events : List Event) → Memory events (s .codes) (s .unread) (s .pending) → Agrees (begun s) tick (since T (tick ∷ triggers)) events
   unfolding begun
-  armed-after s later registers cycle memory =
-      let able : Startable (s .registers) = rw registers startable in
-      let index : s .cycle .index ≡ length triggers % passLength (s .registers) = rw (registers, cycle) (armed .index) in
-      let odd : s .cycle .odd ≡ inOddPass (s .registers) (length triggers) = rw (registers, cycle) (armed .odd) in
+  armed-after events memory =
       record {
         memory = memory;
         held = begun-held s;
-        limits = rw registers (agrees .limits);
+        limits = limits;
         running =
             record {
-              startable = able;
+              startable = startable;
               mode =
                   inr
                   (record {
-                    timed = rw registers (armed .timed);
-                    triggerOnly = rw registers (armed .triggerOnly);
-                    running = rw cycle (armed .running);
-                    index = begun-index s able (length triggers) index;
-                    odd = begun-odd s able (length triggers) index odd;
+                    timed = armed .timed;
+                    triggerOnly = armed .triggerOnly;
+                    running = armed .running;
+                    index = begun-index s startable (length triggers) (armed .index);
+                    odd = begun-odd s startable (length triggers) (armed .index) (armed .odd);
                     flight =
                         inl
                         (record {
@@ -77,66 +80,86 @@ module _ (b : Board) (tick T : ℕ) (triggers : List ℕ) (events : List Event) 
                           waiting = refl;
                           lag = omega arith;
                           taken = omega arith;
-                          slot = begun-slot s able (length triggers) index odd;
-                          ends = begun-ends s able (length triggers) index;
+                          slot = begun-slot s startable (length triggers) (armed .index) (armed .odd);
+                          ends = begun-ends s startable (length triggers) (armed .index);
                         });
                   });
             };
       }
 
-  -- the first trigger stores nothing
-  first-taken : Untriggered triggers (b .cycle) → Related (takes T triggers (bookOf b tick (since T triggers) events)) (triggerTaken b)
-  first-taken u =
-      let board : triggerTaken b ≡ begun b = ap (λ (w : Bool). begun (cond w (stored (b .cycle .slot) (b .cycle .ends) b) b)) (u .waiting) in
-      rw board
-      (record {
+  code-taken :
+      (cycle : Running) (events : List Event) → Memory events (s .codes) (s .unread) (s .pending)
+      → Related (takesCode T triggers (bookOf s tick cycle events)) (begun s)
+  code-taken cycle events memory =
+      record {
         tick = tick;
         cycle = since T (tick ∷ triggers);
         events = events;
-        same =
-            ap (λ (ts : List ℕ). withHappened (begins (length triggers) (storesBefore (length ts) (bookOf b tick (since T triggers) events))) tick (begins (length triggers) (storesBefore (length ts) (bookOf b tick (since T triggers) events)) .taken) (since T (tick ∷ triggers)) (begins (length triggers) (storesBefore (length ts) (bookOf b tick (since T triggers) events)) .events)) (u .are)
-            ∙ begins-is b startable (length triggers) (armed .index) tick (since T (tick ∷ triggers)) events;
-        agrees = armed-after b events refl refl (agrees .memory);
-      })
+        same = begins-is s startable (length triggers) (armed .index) tick (since T (tick ∷ triggers)) events;
+        agrees = armed-after events memory;
+      }
+
+module _ (b : Board) (tick T : ℕ) (triggers : List ℕ) (events : List Event) (agrees : Agrees b tick (since T triggers) events)
+    (startable : Startable (b .registers)) (armed : Armed (b .registers) tick triggers (b .cycle)) where
+  Taken : Board → List ℕ → Type 0
+  Taken after given =
+      Related (takesCode T triggers (storesBefore (length given) (bookOf b tick (since T triggers) events))) after
+
+  -- the first trigger of a cycle that Start Convert armed stores nothing
+  first-taken : Untriggered triggers (b .cycle) → Taken (triggerTaken b) triggers
+  unfolding Taken
+  first-taken u =
+      let board : triggerTaken b ≡ begun b = ap (λ (w : Bool). begun (cond w (stored (b .cycle .slot) (b .cycle .ends) b) b)) (u .waiting) in
+      rw board
+      (subst (Taken (begun b)) (sym (u .are))
+      (code-taken b tick T triggers (agrees .limits) startable armed (since T triggers) events (agrees .memory)))
 
   -- a later one stores the conversion before it
-  later-taken : Waiting (b .registers) tick triggers (b .cycle) → Related (takes T triggers (bookOf b tick (since T triggers) events)) (triggerTaken b)
-  unfolding stored
+  later-taken : Waiting (b .registers) tick triggers (b .cycle) → Taken (triggerTaken b) triggers
+  unfolding Taken stored
   later-taken w =
       let s : Board = stored (b .cycle .slot) (b .cycle .ends) b in
       let board : triggerTaken b ≡ begun s = ap (λ (t : Bool). begun (cond t s b)) (w .waiting) in
       let k : ℕ = length (w .earlier) in
       rw board
-      (record {
-        tick = tick;
-        cycle = since T (tick ∷ triggers);
-        events = storeOf b k ∷ events;
-        same =
-            ap (λ (ts : List ℕ). withHappened (begins (length triggers) (storesBefore (length ts) (bookOf b tick (since T triggers) events))) tick (begins (length triggers) (storesBefore (length ts) (bookOf b tick (since T triggers) events)) .taken) (since T (tick ∷ triggers)) (begins (length triggers) (storesBefore (length ts) (bookOf b tick (since T triggers) events)) .events)) (w .are)
-            ∙ begins-is s startable (length triggers) (armed .index) tick (since T (tick ∷ triggers)) (storeOf b k ∷ events);
-        agrees =
-            armed-after s (storeOf b k ∷ events) refl refl
-            (stored-memory b startable k (b .cycle .slot) (b .cycle .ends) (w .slot) (w .ends) events (agrees .memory) (agrees .held));
-      })
+      (subst (Taken (begun s)) (sym (w .are))
+      (code-taken s tick T triggers (agrees .limits) startable armed (since T triggers) (storeOf b k ∷ events)
+      (stored-memory b startable k (b .cycle .slot) (b .cycle .ends) (w .slot) (w .ends) events (agrees .memory) (agrees .held))))
 
   pub taken-agrees : Related (takes T triggers (bookOf b tick (since T triggers) events)) (triggerTaken b)
+  unfolding Taken
   taken-agrees = ⊎-elim later-taken first-taken (armed .flight)
 
--- what a trigger does to a running board, and to an idle one
+-- a trigger that arms stores the code last taken, in a cycle without a trigger before it
+arming-agrees :
+    (b : Board) (tick : ℕ) (events : List Event) → Agrees b tick idle events → isTriggerOnly (b .registers) ≡ true
+    → hasChannels (b .registers) ≡ true → Related (armsByTrigger (bookOf b tick idle events)) (armedByTrigger b)
+unfolding stored
+arming-agrees b tick events agrees only nine =
+    let r : Registers = b .registers in
+    code-taken (withCycle (stored (r .start) false b) (freshCycle r)) tick tick [] (agrees .limits)
+    (startable-of r (agrees .limits) nine (only-interval r only))
+    (fresh-armed r tick (only-untimed r only) only)
+    idle
+    (storeAt b (r .start) false ∷ events)
+    (slot-memory b (r .start) false (omega (arith, agrees .limits .start)) events (agrees .memory) (agrees .held))
+
+-- what a trigger does to a running board
 abbrev taken : Board → Board
 taken b = cond (isTriggerOnly (b .registers) && eqb (b .cycle .lag) 0) (triggerTaken b) b
 
-abbrev starting : Board → Board
-starting b = cond (isTimed (b .registers) && hasChannels (b .registers) && hasInterval (b .registers)) (started b) b
-
 triggered-in : (b : Board) (tick : ℕ) (cycle : Running) (events : List Event) → Agrees b tick cycle events
     → Related (triggeredIn cycle (bookOf b tick cycle events))
-    (cond (b .cycle .running) (taken b) (starting b))
+    (cond (b .cycle .running) (taken b) (triggeredIdle b))
 triggered-in b tick idle events agrees =
     subst
-    (λ (running : Bool). Related (triggeredIn idle (bookOf b tick idle events)) (cond running (taken b) (starting b)))
+    (λ (running : Bool). Related (triggeredIn idle (bookOf b tick idle events)) (cond running (taken b) (triggeredIdle b)))
     (sym (ap (λ (c : Cycle). c .running) (agrees .running)))
-    (both (isTimed (b .registers) && hasChannels (b .registers) && hasInterval (b .registers)) _ refl
+    (both (isTriggerOnly (b .registers)) _ refl
+    (λ only.
+    both (hasChannels (b .registers)) _ refl (arming-agrees b tick events agrees only) (λ other. unchanged b tick idle events agrees))
+    (λ modes.
+    both (isTimed (b .registers) && hasChannels (b .registers) && hasInterval (b .registers)) _ refl
     (λ able.
     let two = and-left (isTimed (b .registers) && hasChannels (b .registers)) (hasInterval (b .registers)) able in
     let timed = and-left (isTimed (b .registers)) (hasChannels (b .registers)) two in
@@ -145,15 +168,15 @@ triggered-in b tick idle events agrees =
     (and-right (isTimed (b .registers)) (hasChannels (b .registers)) two)
     (and-right (isTimed (b .registers) && hasChannels (b .registers)) (hasInterval (b .registers)) able))
     (timed-scans (b .registers) timed))
-    (λ other. unchanged b tick idle events agrees))
+    (λ other. unchanged b tick idle events agrees)))
 triggered-in b tick (since T triggers) events agrees = go (agrees .running .mode)
   where
     go : Timed (b .registers) T tick (b .cycle) ⊎ Armed (b .registers) tick triggers (b .cycle)
         → Related (triggeredIn (since T triggers) (bookOf b tick (since T triggers) events))
-        (cond (b .cycle .running) (taken b) (starting b))
+        (cond (b .cycle .running) (taken b) (triggeredIdle b))
     go (inl timed) =
         subst
-        (λ (running : Bool). Related (triggeredIn (since T triggers) (bookOf b tick (since T triggers) events)) (cond running (taken b) (starting b)))
+        (λ (running : Bool). Related (triggeredIn (since T triggers) (bookOf b tick (since T triggers) events)) (cond running (taken b) (triggeredIdle b)))
         (sym (timed .running))
         (both (isTriggerOnly (b .registers) && eqb (b .cycle .lag) 0) (isTriggerOnly (b .registers) && isTaken tick triggers)
         (rw (timed-not-only (b .registers) (timed .timed)))
@@ -161,7 +184,7 @@ triggered-in b tick (since T triggers) events agrees = go (agrees .running .mode
         (λ other. unchanged b tick (since T triggers) events agrees))
     go (inr armed) =
         subst
-        (λ (running : Bool). Related (triggeredIn (since T triggers) (bookOf b tick (since T triggers) events)) (cond running (taken b) (starting b)))
+        (λ (running : Bool). Related (triggeredIn (since T triggers) (bookOf b tick (since T triggers) events)) (cond running (taken b) (triggeredIdle b)))
         (sym (armed .running))
         (both (isTriggerOnly (b .registers) && eqb (b .cycle .lag) 0) (isTriggerOnly (b .registers) && isTaken tick triggers)
         (ap (λ (t : Bool). isTriggerOnly (b .registers) && t) (taken-same (b .registers) tick triggers (b .cycle) (armed .flight)))

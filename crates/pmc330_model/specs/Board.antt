@@ -179,7 +179,7 @@ firstStore (suc n) passed b = cond (isStoreDue b) (suc passed) (firstStore n (su
 abbrev pub nextStore : Board → ℕ
 nextStore b = firstStore 16_777_216 0 b
 
--- a cycle at its start
+-- a cycle with no conversion begun
 abbrev pub freshCycle : Registers → Cycle
 freshCycle r =
     record {
@@ -216,14 +216,28 @@ started b = cond (isBurst (b .registers)) (begun (restarted b)) (restarted b)
 abbrev pub triggerTaken : Board → Board
 triggerTaken b = begun (cond (b .cycle .waiting) (stored (b .cycle .slot) (b .cycle .ends) b) b)
 
--- a trigger: taken, the start of a cycle, or ignored
+-- 02, A4: a trigger that "begins an armed cycle without clearing any bit". "As taken trigger 0 it stores the code last taken since
+-- reset (0 if none), formatted, in the Start Channel's slot, and takes conversion 0. For interrupts it counts as a store that ends
+-- no pass."
+abbrev pub armedByTrigger : Board → Board
+armedByTrigger b = begun (withCycle (stored (b .registers .start) false b) (freshCycle (b .registers)))
+
+-- a trigger on an idle board: in external trigger only it arms "if question 9 is met, and is ignored if not" (02, A4); in scan
+-- 001 to 100 it starts a cycle "if questions 9 and 10 are met"
+abbrev pub triggeredIdle : Board → Board
+triggeredIdle b =
+    let r : Registers = b .registers in
+    cond (isTriggerOnly r)
+    (cond (hasChannels r) (armedByTrigger b) b)
+    (cond (isTimed r && hasChannels r && hasInterval r) (started b) b)
+
+-- a trigger: taken, the beginning of a cycle, or ignored
 unfoldable pub triggered : Board → Board
 triggered b =
     let r : Registers = b .registers in
     let taken : Bool = isTriggerOnly r && eqb (b .cycle .lag) 0 in
-    let starts : Bool = isTimed r && hasChannels r && hasInterval r in
     cond (eqb (triggerField (r .control)) 1)
-    (cond (b .cycle .running) (cond taken (triggerTaken b) b) (cond starts (started b) b))
+    (cond (b .cycle .running) (cond taken (triggerTaken b) b) (triggeredIdle b))
     b
 
 -- 02, A2: "Divide the mailbox read into a look, which gives code, New and Missed and changes nothing, and a clear, which drops

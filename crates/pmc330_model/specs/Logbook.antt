@@ -127,12 +127,15 @@ begins k l =
     (l .cycle)
     (l .events)
 
--- conversion k is stored: the code last taken, in the format then in force
-abbrev pub stores : (k : ℕ) → Logbook → Logbook
-stores k l =
+-- a store in a slot: the code last taken, in the format then in force
+abbrev pub storesAt : (slot : ℕ) (ends : Bool) → Logbook → Logbook
+storesAt slot ends l =
     withHappened l (l .tick) (l .taken) (l .cycle)
-    (store (slotOf (l .registers) k) (formattedBy (l .registers) (l .taken)) (isInterrupting (l .registers) (endsPass (l .registers) k))
-    ∷ l .events)
+    (store slot (formattedBy (l .registers) (l .taken)) (isInterrupting (l .registers) ends) ∷ l .events)
+
+-- conversion k is stored
+abbrev pub stores : (k : ℕ) → Logbook → Logbook
+stores k l = storesAt (slotOf (l .registers) k) (endsPass (l .registers) k) l
 
 -- the same in time: "In single modes the last store ends the cycle."
 abbrev pub storesInTime : (k : ℕ) → Logbook → Logbook
@@ -184,18 +187,29 @@ abbrev pub storesBefore : (j : ℕ) → Logbook → Logbook
 storesBefore zero l = l
 storesBefore (suc k) l = stores k l
 
--- "Taken trigger j (from 0) takes conversion j's code": its store first, then its code
-abbrev pub takes : (T : ℕ) (triggers : List ℕ) → Logbook → Logbook
-takes T triggers l =
-    let j : ℕ = length triggers in
-    let after : Logbook = begins j (storesBefore j l) in
+-- "Taken trigger j (from 0) takes conversion j's code", and is then one of "the triggers taken in it"
+abbrev pub takesCode : (T : ℕ) (triggers : List ℕ) → Logbook → Logbook
+takesCode T triggers l =
+    let after : Logbook = begins (length triggers) l in
     withHappened after (l .tick) (after .taken) (since T (l .tick ∷ triggers)) (after .events)
 
--- idle: "in scan 001 to 100 by a trigger while idle with trigger field 01, if questions 9 and 10 are met"; "An unarmed trigger
--- does nothing." Running: taken if armed, else "accepted and ignored"
+-- "its store first, then its code"
+abbrev pub takes : (T : ℕ) (triggers : List ℕ) → Logbook → Logbook
+takes T triggers l = takesCode T triggers (storesBefore (length triggers) l)
+
+-- 02, A4: a trigger that "begins an armed cycle", T at this tick, and is no cycle start: "As taken trigger 0 it stores the code last
+-- taken since reset (0 if none), formatted, in the Start Channel's slot, and takes conversion 0"; a store "that ends no pass"
+abbrev pub armsByTrigger : Logbook → Logbook
+armsByTrigger l = takesCode (l .tick) [] (storesAt (l .registers .start) false l)
+
+-- idle: in external trigger only, the trigger arms "if question 9 is met, and is ignored if not" (02, A4, in place of 01's "An
+-- unarmed trigger does nothing"); a cycle starts "in scan 001 to 100 by a trigger while idle with trigger field 01, if questions 9
+-- and 10 are met". Running: taken if armed, else "accepted and ignored"
 abbrev pub triggeredIn : Running → Logbook → Logbook
 triggeredIn idle l =
-    cond (isTimed (l .registers) && hasChannels (l .registers) && hasInterval (l .registers)) (starts l) l
+    cond (isTriggerOnly (l .registers))
+    (cond (hasChannels (l .registers)) (armsByTrigger l) l)
+    (cond (isTimed (l .registers) && hasChannels (l .registers) && hasInterval (l .registers)) (starts l) l)
 triggeredIn (since T triggers) l =
     cond (isTriggerOnly (l .registers) && isTaken (l .tick) triggers) (takes T triggers l) l
 

@@ -14,9 +14,9 @@ use Rattle.pmc330_model.specs.Map.{triggerField}
 use Rattle.pmc330_model.specs.Words.{bitOf, readBytes}
 use Rattle.pmc330_model.specs.Schedule.{isTimed, isTriggerOnly, channelOf, slotOf, endsPass, codeAt, formattedBy, isInterrupting, beginsAt, isScheduled, conversion}
 use Rattle.pmc330_model.specs.Calls.{Call, read, write, input, advance, trigger, reset, look, clear}
-use Rattle.pmc330_model.specs.Questions.{callQuestions}
+use Rattle.pmc330_model.specs.Questions.{callQuestions, hasChannels}
 use Rattle.pmc330_model.specs.Board.{boardCall, newCall, newBoard, readCall, advanceCall, lookCall, clearCall, viewOf, requestLine, nextStore, boardAfter, answersOf}
-use Rattle.pmc330_model.specs.Logbook.{Event, wasReset, cycleStart, release, wasRead, store, idle, since, isIdle, Logbook, lastStore, storesSince, interrupted, dueAfter, tickPasses, ticksPass, logged, logbookOf, logbookAnswers}
+use Rattle.pmc330_model.specs.Logbook.{Event, wasReset, cycleStart, release, wasRead, store, idle, since, isIdle, Logbook, lastStore, storesSince, interrupted, withHappened, dueAfter, tickPasses, ticksPass, logged, logbookOf, logbookAnswers}
 use Rattle.pmc330_model.specs.declared.Registers.{Registers}
 use Rattle.pmc330_model.specs.declared.Board.{Board}
 
@@ -70,7 +70,7 @@ pub record ReadsBit (b : Board) (offset place : ℕ) (bit : Bool) : Type 0 where
 pub record Sentence3 (b : Board) (l : Logbook) : Type 0 where
   pub mailbox : (s : ℕ) → s < 32 → readCall b 16 (0x80 + 4 * s) .answer ≡ Accepted (lastStore s (l .events))
   -- "A New Data bit is set exactly when at least one store in that mailbox, and a Missed Data bit exactly when at least two,
-  -- followed the last read of that mailbox, cycle start or reset."
+  -- followed the last read of that mailbox, cycle start or reset." A trigger that begins an armed cycle is no cycle start (02, A4)
   pub newData : (s : ℕ) → s < 32 → ReadsBit b (0x14 + 4 * (s / 16)) (s % 16) (leb 1 (storesSince s (l .events)))
   pub missedData : (s : ℕ) → s < 32 → ReadsBit b (0x1c + 4 * (s / 16)) (s % 16) (leb 2 (storesSince s (l .events)))
   -- "An interrupt is pending exactly when an interrupting store followed the last release or reset."
@@ -121,45 +121,6 @@ mayStore r reset = false
 mayStore r (look slot) = false
 mayStore r (clear slot) = false
 
--- the stores among the events
-unfoldable pub storesAmong : List Event → List Event
-storesAmong [] = []
-storesAmong (wasReset ∷ earlier) = storesAmong earlier
-storesAmong (cycleStart ∷ earlier) = storesAmong earlier
-storesAmong (release ∷ earlier) = storesAmong earlier
-storesAmong (wasRead slot ∷ earlier) = storesAmong earlier
-storesAmong (store slot code interrupts ∷ earlier) = store slot code interrupts ∷ storesAmong earlier
-
--- Of a logbook: a cycle has its T from the call that starts it and keeps it, and a timed one is as above; without one no tick
--- makes a store
-pub record Scheduled (l : Logbook) : Type 0 where
-  pub started :
-      (call : Call) (T : ℕ) (triggers : List ℕ) → l .cycle ≡ idle → logged l call .cycle ≡ since T triggers
-      → (T ≡ l .tick) × (triggers ≡ [])
-  pub kept :
-      (call : Call) (T later : ℕ) (triggers more : List ℕ) → l .cycle ≡ since T triggers → logged l call .cycle ≡ since later more
-      → later ≡ T
-  pub timed : (T : ℕ) (triggers : List ℕ) → l .cycle ≡ since T triggers → isTimed (l .registers) ≡ true → InCycle l T triggers
-  pub untimed : isTimed (l .registers) ≡ false → tickPasses l .events ≡ l .events
-  pub whileIdle : l .cycle ≡ idle → tickPasses l .events ≡ l .events
-  -- external trigger only: a trigger that is taken and not the first of its cycle stores the conversion before; no other does
-  pub taken :
-      (T last : ℕ) (earlier : List ℕ) → l .cycle ≡ since T (last ∷ earlier) → isTriggerOnly (l .registers) ≡ true
-      → triggerField (l .registers .control) ≡ 1 → 64 ≤ l .tick - last
-      → logged l trigger .events
-      ≡ (store (slotOf (l .registers) (length earlier)) (formattedBy (l .registers) (l .taken))
-      (isInterrupting (l .registers) (endsPass (l .registers) (length earlier)))
-      ∷ l .events)
-  pub untaken :
-      isTriggerOnly (l .registers) ≡ true
-      → ((T last : ℕ) (earlier : List ℕ) → l .cycle ≡ since T (last ∷ earlier) → triggerField (l .registers .control) ≡ 1 → 64 ≤ l .tick - last → ⊥)
-      → logged l trigger .events ≡ l .events
-  -- no other call makes a store but an advance
-  pub otherCalls : (call : Call) → mayStore (l .registers) call ≡ false → storesAmong (logged l call .events) ≡ storesAmong (l .events)
-
-abbrev pub EverySchedule : Type 0
-EverySchedule = (range : ℕ) → range < 4 → (calls : List Call) → Scheduled (logbookOf range calls)
-
 -- a call that leaves the tick as it is where it is accepted: an advance moves it, and a reset begins at 0 again
 abbrev pub isTimeless : Call → Bool
 isTimeless (read width offset) = true
@@ -170,6 +131,69 @@ isTimeless trigger = true
 isTimeless reset = false
 isTimeless (look slot) = true
 isTimeless (clear slot) = true
+
+-- the stores among the events
+unfoldable pub storesAmong : List Event → List Event
+storesAmong [] = []
+storesAmong (wasReset ∷ earlier) = storesAmong earlier
+storesAmong (cycleStart ∷ earlier) = storesAmong earlier
+storesAmong (release ∷ earlier) = storesAmong earlier
+storesAmong (wasRead slot ∷ earlier) = storesAmong earlier
+storesAmong (store slot code interrupts ∷ earlier) = store slot code interrupts ∷ storesAmong earlier
+
+-- Of a logbook: a cycle has its T from the call that begins it and keeps it, and a timed one is as above
+pub record Scheduled (l : Logbook) : Type 0 where
+  -- a cycle begins with no trigger taken, or with the one that begins it: in external trigger only, 02, A4. An advance begins none
+  pub started :
+      (call : Call) (T : ℕ) (triggers : List ℕ) → l .cycle ≡ idle → logged l call .cycle ≡ since T triggers
+      → (T ≡ l .tick) × (triggers ≡ cond (mayStore (l .registers) call) (l .tick ∷ []) [])
+  pub kept :
+      (call : Call) (T later : ℕ) (triggers more : List ℕ) → l .cycle ≡ since T triggers → logged l call .cycle ≡ since later more
+      → later ≡ T
+  pub timed : (T : ℕ) (triggers : List ℕ) → l .cycle ≡ since T triggers → isTimed (l .registers) ≡ true → InCycle l T triggers
+  -- otherwise a tick makes no store and takes no code
+  pub untimed : isTimed (l .registers) ≡ false → tickPasses l ≡ withHappened l (suc (l .tick)) (l .taken) (l .cycle) (l .events)
+  pub whileIdle : l .cycle ≡ idle → tickPasses l ≡ withHappened l (suc (l .tick)) (l .taken) (l .cycle) (l .events)
+  -- "the code last taken": a call after which no cycle runs keeps it, but for an advance and a reset; so a stop forgets none
+  pub codeKept : (call : Call) → isTimeless call ≡ true → logged l call .cycle ≡ idle → logged l call .taken ≡ l .taken
+  -- external trigger only: the first trigger of a cycle that Start Convert armed takes conversion 0's code
+  pub first :
+      (T : ℕ) → l .cycle ≡ since T [] → isTriggerOnly (l .registers) ≡ true → triggerField (l .registers .control) ≡ 1
+      → logged l trigger
+      ≡ withHappened l (l .tick) (codeAt (l .range) (l .registers) (l .gains) (l .inputs) (channelOf (l .registers) 0))
+      (since T (l .tick ∷ []))
+      (l .events)
+  -- a later one that is taken stores the conversion before and takes the next one's code
+  pub taken :
+      (T last : ℕ) (earlier : List ℕ) → l .cycle ≡ since T (last ∷ earlier) → isTriggerOnly (l .registers) ≡ true
+      → triggerField (l .registers .control) ≡ 1 → 64 ≤ l .tick - last
+      → logged l trigger
+      ≡ withHappened l (l .tick) (codeAt (l .range) (l .registers) (l .gains) (l .inputs) (channelOf (l .registers) (suc (length earlier))))
+      (since T (l .tick ∷ last ∷ earlier))
+      (store (slotOf (l .registers) (length earlier)) (formattedBy (l .registers) (l .taken))
+      (isInterrupting (l .registers) (endsPass (l .registers) (length earlier)))
+      ∷ l .events)
+  -- 02, A4: while idle "it stores the code last taken since reset (0 if none), formatted, in the Start Channel's slot, and takes
+  -- conversion 0", if question 9 is met. The store is one "that ends no pass" and the only event: there is no cycle start
+  pub unarmed :
+      l .cycle ≡ idle → isTriggerOnly (l .registers) ≡ true → triggerField (l .registers .control) ≡ 1
+      → hasChannels (l .registers) ≡ true
+      → logged l trigger
+      ≡ withHappened l (l .tick) (codeAt (l .range) (l .registers) (l .gains) (l .inputs) (channelOf (l .registers) 0))
+      (since (l .tick) (l .tick ∷ []))
+      (store (l .registers .start) (formattedBy (l .registers) (l .taken)) (isInterrupting (l .registers) false) ∷ l .events)
+  -- every other trigger in this mode changes nothing
+  pub ignored :
+      isTriggerOnly (l .registers) ≡ true
+      → ((T : ℕ) → l .cycle ≡ since T [] → triggerField (l .registers .control) ≡ 1 → ⊥)
+      → ((T last : ℕ) (earlier : List ℕ) → l .cycle ≡ since T (last ∷ earlier) → triggerField (l .registers .control) ≡ 1 → 64 ≤ l .tick - last → ⊥)
+      → (l .cycle ≡ idle → triggerField (l .registers .control) ≡ 1 → hasChannels (l .registers) ≡ true → ⊥)
+      → logged l trigger ≡ l
+  -- no other call makes a store but an advance
+  pub otherCalls : (call : Call) → mayStore (l .registers) call ≡ false → storesAmong (logged l call .events) ≡ storesAmong (l .events)
+
+abbrev pub EverySchedule : Type 0
+EverySchedule = (range : ℕ) → range < 4 → (calls : List Call) → Scheduled (logbookOf range calls)
 
 -- "An accepted advance of n counts as n ticks, a refused call as none." These are the ticks one by one, with their stores
 pub record TicksCounted (l : Logbook) : Type 0 where
