@@ -1,6 +1,7 @@
 /* The virtual PMC330: what a C program (C99 or later, or C++) links from libpmc330_c.a.
    A simulator holds boards and steps them call by call (pmc330_board, pmc330_open and what follows it), or hands
-   over a whole list of calls (pmc330_play). Three functions need no board: pmc330_corrected, pmc330_code and
+   over a whole list of calls (pmc330_play). A bench recording, such a list with what a real board answered, is compared
+   with the virtual board (pmc330_replay). Three functions need no board: pmc330_corrected, pmc330_code and
    pmc330_window.
    Each function answers all numbers that it can be given, and ends. None fails, allocates, or keeps anything behind
    the caller's back. Pointers are the caller's to get right: none may be NULL. */
@@ -163,7 +164,8 @@ extern "C" {
    the last sum holds, else 0. Otherwise the call was refused: it did nothing, value is 0, and number says why, the
    first that holds.
    Triggers and resets are always accepted; a trigger that cannot act is ignored.
-   Keep a result in a variable: a call inside both macros would be made twice. */
+   Keep a result in a variable: a call inside both macros would be made twice.
+   A replay's result has another form, see PMC330_REPLAY_NUMBER. */
 #define PMC330_NUMBER(result) ((uint32_t)((result) % 256U))
 #define PMC330_VALUE(result)  ((uint32_t)((result) / 256U))
 
@@ -194,7 +196,7 @@ extern "C" {
 #define PMC330_BAD_CALIBRATION  15U
 #define PMC330_BAD_CODES        16U
 #define PMC330_BAD_SUMS         17U
-/* pmc330_play */
+/* pmc330_play and pmc330_replay */
 #define PMC330_BAD_HEADING      18U
 #define PMC330_BAD_FIELD        19U
 /* pmc330_play and pmc330_window */
@@ -203,6 +205,8 @@ extern "C" {
 #define PMC330_BAD_WINDOW       21U  /* a window length other than 8, 16, 32 */
 /* looks and clears */
 #define PMC330_BAD_SLOT         22U  /* a slot above 31 */
+/* pmc330_play and pmc330_replay, looked at after 19 and before 20 */
+#define PMC330_STRAY_ANSWER     26U  /* a recorded answer that does not follow a call */
 
 /* A look's value, PMC330_VALUE(result): the code in the mailbox, 65536 more if New and 131072 more if Missed. */
 #define PMC330_LOOK_CODE(value) ((value) & 0xFFFFU)
@@ -349,31 +353,33 @@ uint32_t pmc330_code(uint32_t range, uint32_t gain, int32_t microvolts);
 uint64_t pmc330_window(uint32_t length, const uint16_t *codes, size_t codes_len, uint32_t *sums, size_t sums_len);
 
 /* ---- Traces: tags, lengths of the bodies, sizes ---- */
-#define PMC330_TAG_HEADING    0x00U
-#define PMC330_TAG_READ       0x01U
-#define PMC330_TAG_WRITE      0x02U
-#define PMC330_TAG_INPUT      0x03U
-#define PMC330_TAG_ADVANCE    0x04U
-#define PMC330_TAG_TRIGGER    0x05U
-#define PMC330_TAG_RESET      0x06U
-#define PMC330_TAG_LOOK       0x07U
-#define PMC330_TAG_CLEAR      0x08U
-#define PMC330_LENGTH_HEADING 5U
-#define PMC330_LENGTH_READ    3U
-#define PMC330_LENGTH_WRITE   7U
-#define PMC330_LENGTH_INPUT   5U
-#define PMC330_LENGTH_ADVANCE 4U
-#define PMC330_LENGTH_TRIGGER 0U
-#define PMC330_LENGTH_RESET   0U
-#define PMC330_LENGTH_LOOK    1U
-#define PMC330_LENGTH_CLEAR   1U
-#define PMC330_FIELD_HEAD     3U      /* bytes before a body: the tag and the length */
-#define PMC330_HEADING        "A330"  /* the heading's four fixed bytes (and C's closing 0, which is not put) */
-#define PMC330_ANSWER_BYTES   5U      /* of each call: number (1), value (4) */
+#define PMC330_TAG_HEADING     0x00U
+#define PMC330_TAG_READ        0x01U
+#define PMC330_TAG_WRITE       0x02U
+#define PMC330_TAG_INPUT       0x03U
+#define PMC330_TAG_ADVANCE     0x04U
+#define PMC330_TAG_TRIGGER     0x05U
+#define PMC330_TAG_RESET       0x06U
+#define PMC330_TAG_LOOK        0x07U
+#define PMC330_TAG_CLEAR       0x08U
+#define PMC330_TAG_ANSWERED    0x09U   /* no call: a recorded answer */
+#define PMC330_LENGTH_HEADING  5U
+#define PMC330_LENGTH_READ     3U
+#define PMC330_LENGTH_WRITE    7U
+#define PMC330_LENGTH_INPUT    5U
+#define PMC330_LENGTH_ADVANCE  4U
+#define PMC330_LENGTH_TRIGGER  0U
+#define PMC330_LENGTH_RESET    0U
+#define PMC330_LENGTH_LOOK     1U
+#define PMC330_LENGTH_CLEAR    1U
+#define PMC330_LENGTH_ANSWERED 5U
+#define PMC330_FIELD_HEAD      3U      /* bytes before a body: the tag and the length */
+#define PMC330_HEADING         "A330"  /* the heading's four fixed bytes (and C's closing 0, which is not put) */
+#define PMC330_ANSWER_BYTES    5U      /* of each call: number (1), value (4) */
 
 /* Plays a trace on a new board and puts the answers of its calls into a buffer.
      trace, trace_len       the trace: at most 16,777,216 bytes
-     answers, answers_len   the buffer, apart from the trace: at least 5 bytes per call
+     answers, answers_len   the buffer, apart from the trace: at least 5 bytes per call, none for a recorded answer
    A trace is fields: tag (1 byte), length of the body (2), body. All numbers are low byte first.
      00H  length 5   first field, and only there: "A330", then the range, 0 to 3
      01H  length 3   read: width 8, 16 or 32 (1), offset (2)
@@ -384,6 +390,9 @@ uint64_t pmc330_window(uint32_t length, const uint16_t *codes, size_t codes_len,
      06H  length 0   reset
      07H  length 1   look: slot 0 to 31 (1)
      08H  length 1   clear: slot 0 to 31 (1)
+     09H  length 5   recorded answer, after a call: number (1), value (4); what a board answered to that call.
+                     It is passed over here: where the trace is not refused with 18, 19 or 26, result and buffer
+                     are those of the trace without it
    Each call's answer is 5 bytes: number (1) and value (4). Number 0: the call was accepted, and value
    is the value read, for a look its code and bits (PMC330_LOOK_..), for an advance the number of stores
    made in it, else 0. Otherwise the board stays as it was, value is 0, the trace goes on, and number says
@@ -392,10 +401,32 @@ uint64_t pmc330_window(uint32_t length, const uint16_t *codes, size_t codes_len,
    order, and the bytes beyond them are as they were. Otherwise the whole buffer is as it was, no call
    was made, and number says what is wrong, the first of:
      18  the trace is too long, or its first field is not that heading
-     19  a later field is cut off, or has no call's tag, or not its length
+     19  a later field is cut off, or has neither a call's tag nor 09H, or not its length
+     26  a recorded answer does not follow a call: the field before it is the heading or another 09H; looked at
+         only where no field of the whole trace is refused with 19
      20  the buffer has fewer than 5 bytes per call
    A length of 0 is allowed; its pointer must then still not be NULL. */
 uint64_t pmc330_play(const uint8_t *trace, size_t trace_len, uint8_t *answers, size_t answers_len);
+
+/* A replay's result, number + 2^8 * index + 2^32 * count, taken apart. */
+#define PMC330_REPLAY_NUMBER(result) ((uint32_t)((result) % 256U))
+#define PMC330_REPLAY_INDEX(result)  ((uint32_t)((result) / 256U % 16777216U))
+#define PMC330_REPLAY_COUNT(result)  ((uint32_t)((result) / 4294967296ULL))
+
+/* Replays a bench recording: plays the trace on a new board, as pmc330_play does, and compares each recorded answer
+   (09H) with the board's own answer to the call before it. Calls without a recorded answer are made and not compared.
+     trace, trace_len   the trace: at most 16,777,216 bytes; a recorded answer takes 8 of them
+   Equal means the same number and the same low 16 bits of value. So a look's New and Missed do not count, and of an
+   advance's stores only the remainder by 65,536 does.
+   Returns number + 2^8 * index + 2^32 * count.
+     Number 0, index 0: all agree. Count is how many recorded answers there are, 0 if there is none.
+     Number 0, another index: the first call whose answer is not equal to the recorded one, from 1 and counting all
+     calls. Count is how many recorded answers there are up to and including that call's. It stops there.
+     Another number: the trace is refused with 18, 19 or 26, the first that holds, as pmc330_play says; no call was
+     made, and index and count are 0.
+   There is no buffer, and no 20. It costs about what the play of the same trace costs.
+   A trace_len of 0 is allowed; the pointer must then still not be NULL. */
+uint64_t pmc330_replay(const uint8_t *trace, size_t trace_len);
 
 #ifdef __cplusplus
 }

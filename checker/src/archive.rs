@@ -90,6 +90,16 @@ pub fn play(trace: &[u8], answers: &mut [u8]) -> u64 {
     }
 }
 
+extern "C" {
+    fn pmc330_replay(trace: *const u8, trace_len: usize) -> u64;
+}
+
+/// The archive's replay: number + 2^8 * index + 2^32 * count.
+pub fn replay(trace: &[u8]) -> u64 {
+    // Safe: as above.
+    unsafe { pmc330_replay(trace.as_ptr(), trace.len()) }
+}
+
 /// The player of the archive that PMC330_OLD_ARCHIVE named when this was built, if it was set.
 #[cfg(old_archive)]
 pub const OLD_PLAYER: Option<Player> = Some(old_play);

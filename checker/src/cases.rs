@@ -1,4 +1,4 @@
-//! Cases typed in from 01, from 02 (A2, A4) and from MANUALS.md, as lists of calls with the answers expected.
+//! Cases typed in from 01, from 02 (A2, A4, A6) and from MANUALS.md, as lists of calls with the answers expected.
 //! That a board is idle is seen by a write to 0CH: a busy one refuses it with 6.
 
 use crate::script::{steps, Step};
@@ -1214,10 +1214,19 @@ const TRIGGER: &[u8] = &[0x05, 0, 0];
 const LOOK_31: &[u8] = &[0x07, 1, 0, 31];
 const CLEAR_31: &[u8] = &[0x08, 1, 0, 31];
 
+/// A trigger's answer, recorded.
+const ANSWERED: &[u8] = &[0x09, 5, 0, 0, 0, 0, 0, 0];
+
+/// No answer of a board.
+const ANY_BYTES: &[u8] = &[0x09, 5, 0, 0xFE, 0xDC, 0xBA, 0x98, 0x76];
+
+/// The head of a call without its body.
+const HALF_A_READ: &[u8] = &[0x01, 3, 0];
+
 /// A good heading.
 const HEAD: &[u8] = &[0x00, 5, 0, b'A', b'3', b'3', b'0', 3];
 
-/// Questions 18 to 20: the fields of a trace, the length of the buffer, the result. U23 and U26 of
+/// Questions 18 to 20 and 26: the fields of a trace, the length of the buffer, the result. U23 and U26 of
 /// MANUALS.md are among them.
 pub const TRACES: &[(&[&[u8]], usize, u64)] = &[
     (&[], 0, 18),
@@ -1262,4 +1271,256 @@ pub const TRACES: &[(&[&[u8]], usize, u64)] = &[
     (&[HEAD, CLEAR_31], 4, 20),
     (&[HEAD, CLEAR_31], 6, 256),
     (&[HEAD, CLEAR_31, LOOK_31, LOOK_31], 15, 768),
+    // 19 admits 09H, of its length, and no other tag above it.
+    (&[HEAD, TRIGGER, &[0x09, 4, 0, 0, 0, 0, 0]], 100, 19),
+    (&[HEAD, TRIGGER, &[0x09, 6, 0, 0, 0, 0, 0, 0, 0]], 100, 19),
+    (&[HEAD, TRIGGER, &[0x09, 5, 1, 0, 0, 0, 0, 0]], 100, 19),
+    (&[HEAD, TRIGGER, &[0x09, 5, 0, 0, 0, 0, 0]], 100, 19),
+    (&[HEAD, TRIGGER, &[0x09]], 100, 19),
+    (&[HEAD, TRIGGER, &[0x0A, 6, 0, 0, 0, 0, 0, 0, 0]], 100, 19),
+    (&[HEAD, TRIGGER, &[0x0A, 5, 0, 0, 0, 0, 0, 0]], 100, 19),
+    // 26: its previous field is the heading, or another 09H.
+    (&[HEAD, ANSWERED], 100, 26),
+    (&[HEAD, ANSWERED, TRIGGER], 100, 26),
+    (&[HEAD, TRIGGER, ANSWERED, ANSWERED], 100, 26),
+    (&[HEAD, TRIGGER, ANSWERED, ANY_BYTES, TRIGGER], 100, 26),
+    (
+        &[HEAD, TRIGGER, TRIGGER, ANSWERED, ANSWERED, ANSWERED],
+        100,
+        26,
+    ),
+    // 18 before it, and 19, also of a field further on; 20 after it.
+    (&[&[0x00, 5, 0, b'A', b'3', b'3', b'0', 4], ANSWERED], 0, 18),
+    (&[ANSWERED, HEAD], 0, 18),
+    (&[HEAD, ANSWERED, TRIGGER, &[0x0B, 0, 0]], 100, 19),
+    (&[HEAD, TRIGGER, ANSWERED, ANSWERED, HALF_A_READ], 100, 19),
+    (&[HEAD, ANSWERED, &[0x05]], 0, 19),
+    (&[HEAD, &[0x0B, 0, 0], ANSWERED, ANSWERED], 0, 19),
+    (&[HEAD, TRIGGER, TRIGGER, ANSWERED, ANSWERED], 0, 26),
+    (&[HEAD, ANSWERED, TRIGGER], 4, 26),
+    // The player passes over it: no call, and no room in the buffer.
+    (&[HEAD, TRIGGER, ANSWERED], 5, 256),
+    (&[HEAD, TRIGGER, ANY_BYTES], 5, 256),
+    (&[HEAD, TRIGGER, ANSWERED], 4, 20),
+    (&[HEAD, TRIGGER, ANY_BYTES, TRIGGER, ANSWERED], 10, 512),
+    (&[HEAD, TRIGGER, ANSWERED, TRIGGER, ANSWERED], 9, 20),
+    (
+        &[HEAD, LOOK_31, ANSWERED, CLEAR_31, TRIGGER, ANSWERED],
+        15,
+        768,
+    ),
+];
+
+/// A recording, and what the program prints of its replay.
+pub struct Replay {
+    pub name: &'static str,
+    pub range: u8,
+    pub script: &'static str,
+    pub printed: &'static str,
+}
+
+const fn replay(
+    name: &'static str,
+    range: u8,
+    script: &'static str,
+    printed: &'static str,
+) -> Replay {
+    Replay {
+        name,
+        range,
+        script,
+        printed,
+    }
+}
+
+/// 02, A6, sentence by sentence.
+pub const REPLAYS: &[Replay] = &[
+    replay(
+        "01's example, with what 01 prints",
+        1,
+        "
+        write 16 10H 0000H; answered 0 0; write 16 04H 0401H; answered 0 0; write 16 24H 1; answered 0 0
+        advance 64; answered 0 1; read 16 14H; answered 0 1; read 16 80H; answered 0 8000H
+        read 16 14H; answered 0 0
+        ",
+        "agree 7",
+    ),
+    replay(
+        "it follows any call",
+        0,
+        "
+        read 16 04H; answered 0 0; write 16 0CH 5; answered 0 0; input 31 -5; answered 0 0
+        advance 9; answered 0 0; trigger; answered 0 0; reset; answered 0 0; look 31; answered 0 0
+        clear 31; answered 0 0
+        ",
+        "agree 8",
+    ),
+    replay("the heading alone", 2, "", "agree 0"),
+    replay("no 09H at all", 3, "trigger; reset; read 16 28H", "agree 0"),
+    replay("the first call", 0, "trigger; answered 0 1; trigger; answered 0 0", "differs 1 1"),
+    replay(
+        "the last call; the count has its own 09H in it",
+        0,
+        "trigger; answered 0 0; reset; answered 0 0; trigger; answered 1 0",
+        "differs 3 3",
+    ),
+    replay(
+        "the index counts calls with no 09H too",
+        0,
+        "reset; trigger; reset; answered 0 0; advance 64; look 0; answered 0 1; trigger",
+        "differs 5 2",
+    ),
+    replay(
+        "the only 09H, after the third call",
+        0,
+        "trigger; trigger; trigger; answered 0 2; trigger",
+        "differs 3 1",
+    ),
+    replay(
+        "two wrong ones: the first is given, and no later 09H is counted",
+        0,
+        "trigger; trigger; answered 0 5; trigger; answered 0 6; trigger; answered 0 0",
+        "differs 2 1",
+    ),
+    replay(
+        "calls after the last 09H change nothing",
+        0,
+        "trigger; answered 0 0; read 16 28H; trigger; reset",
+        "agree 1",
+    ),
+    replay("a refused call, right", 0, "read 16 28H; answered 3 0", "agree 1"),
+    replay("a refused call, another number", 0, "read 16 28H; answered 2 0", "differs 1 1"),
+    replay("a refused call said to be accepted", 0, "read 16 28H; answered 0 0", "differs 1 1"),
+    replay("an accepted call said to be refused", 0, "trigger; answered 6 0", "differs 1 1"),
+    replay("a number that there is not", 0, "trigger; answered 255 0", "differs 1 1"),
+    replay(
+        "a refused call's value is 0 in its low 16 bits",
+        0,
+        "look 32; answered 22 10000H; look 32; answered 22 1",
+        "differs 2 2",
+    ),
+    replay(
+        "a refused call, and the trace goes on",
+        1,
+        "
+        write 16 04H 0401H; answered 0 0; write 16 24H 1; answered 0 0; write 16 0CH 1; answered 6 0
+        advance 64; answered 0 1; write 16 0CH 1; answered 0 0
+        ",
+        "agree 5",
+    ),
+    replay(
+        "the low 16 bits: byte 0",
+        0,
+        "write 16 04H 1401H; read 16 04H; answered 0 1400H",
+        "differs 2 1",
+    ),
+    replay(
+        "the low 16 bits: byte 1",
+        0,
+        "write 16 04H 1401H; read 16 04H; answered 0 9401H",
+        "differs 2 1",
+    ),
+    replay(
+        "the low 16 bits: bytes 2 and 3 do not count",
+        0,
+        "
+        write 16 04H 1401H; answered 0 FFFF0000H; read 16 04H; answered 0 11401H
+        read 16 04H; answered 0 80001401H; read 16 04H; answered 0 FFFF1401H
+        ",
+        "agree 4",
+    ),
+    replay(
+        "a look's New and Missed do not count",
+        1,
+        "
+        write 16 04H 0401H; write 16 24H 1; advance 64; look 0; answered 0 18000H   # New it is
+        look 0; answered 0 8000H; look 0; answered 0 38000H; look 0; answered 0 28000H
+        look 0; answered 0 18001H
+        ",
+        "differs 8 5",
+    ),
+    // 32 channels at I = 64: 262,143 stores, for the first comes after 128 ticks, then 262,144.
+    replay(
+        "stores above 65,535: the true count",
+        1,
+        "
+        write 16 04H 0909H; write 16 08H 4000H; write 16 0CH 1; write 16 10H 1F00H; write 16 24H 1
+        advance 16,777,216; answered 0 262,143; advance 16,777,216; answered 0 262,144
+        ",
+        "agree 2",
+    ),
+    replay(
+        "stores above 65,535: modulo 65,536",
+        1,
+        "
+        write 16 04H 0909H; write 16 08H 4000H; write 16 0CH 1; write 16 10H 1F00H; write 16 24H 1
+        advance 16,777,216; answered 0 65,535; advance 16,777,216; answered 0 0
+        ",
+        "agree 2",
+    ),
+    replay(
+        "stores above 65,535: one too few",
+        1,
+        "
+        write 16 04H 0909H; write 16 08H 4000H; write 16 0CH 1; write 16 10H 1F00H; write 16 24H 1
+        advance 16,777,216; answered 0 262,143; advance 16,777,216; answered 0 262,143
+        ",
+        "differs 7 2",
+    ),
+    replay("26 after the heading", 0, "answered 0 0; trigger", "refused 26"),
+    replay("26 after a 09H", 0, "trigger; answered 0 0; answered 0 0", "refused 26"),
+    replay(
+        "26 is asked before any call is made",
+        0,
+        "trigger; answered 1 1; trigger; answered 0 0; answered 0 0; trigger",
+        "refused 26",
+    ),
+    replay("09H fields and nothing else", 0, "answered 0 0; answered 0 0", "refused 26"),
+];
+
+/// The fields of a trace, and what a replay returns: number + 2^8 * index + 2^32 * count.
+pub const REPLAYED: &[(&[&[u8]], u64)] = &[
+    (&[], 18),
+    (&[HEAD], 0),
+    (&[TRIGGER, HEAD], 18),
+    (&[&[0x00, 5, 0, b'A', b'3', b'3', b'0', 4], ANSWERED], 18),
+    (&[HEAD, TRIGGER], 0),
+    (&[HEAD, TRIGGER, ANSWERED], 1 << 32),
+    (&[HEAD, TRIGGER, ANY_BYTES], 1 << 32 | 1 << 8),
+    (
+        &[HEAD, TRIGGER, TRIGGER, ANSWERED, TRIGGER, ANY_BYTES],
+        2 << 32 | 3 << 8,
+    ),
+    (
+        &[
+            HEAD, TRIGGER, ANSWERED, LOOK_31, ANSWERED, CLEAR_31, ANSWERED,
+        ],
+        3 << 32,
+    ),
+    (
+        &[HEAD, TRIGGER, ANY_BYTES, TRIGGER, ANY_BYTES],
+        1 << 32 | 1 << 8,
+    ),
+    (
+        &[HEAD, TRIGGER, &[0x09, 5, 0, 0, 1, 0, 0, 0]],
+        1 << 32 | 1 << 8,
+    ),
+    (
+        &[HEAD, TRIGGER, &[0x09, 5, 0, 0, 0, 1, 0, 0]],
+        1 << 32 | 1 << 8,
+    ),
+    (&[HEAD, TRIGGER, &[0x09, 5, 0, 0, 0, 0, 1, 0]], 1 << 32),
+    (&[HEAD, TRIGGER, &[0x09, 5, 0, 0, 0, 0, 0, 1]], 1 << 32),
+    (
+        &[HEAD, TRIGGER, &[0x09, 5, 0, 1, 0, 0, 0, 0]],
+        1 << 32 | 1 << 8,
+    ),
+    (&[HEAD, ANSWERED], 26),
+    (&[HEAD, TRIGGER, ANY_BYTES, ANSWERED], 26),
+    (&[HEAD, TRIGGER, ANSWERED, HALF_A_READ], 19),
+    (&[HEAD, TRIGGER, ANSWERED, ANSWERED, HALF_A_READ], 19),
+    (&[HEAD, ANSWERED, &[0x0B, 0, 0]], 19),
+    (&[HEAD, TRIGGER, &[0x09, 4, 0, 0, 0, 0, 0]], 19),
+    (&[HEAD, TRIGGER, &[0x09, 5, 0, 0, 0, 0, 0]], 19),
+    (&[HEAD, TRIGGER, &[0x0A, 6, 0, 0, 0, 0, 0, 0, 0]], 19),
 ];

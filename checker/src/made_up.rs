@@ -1,18 +1,27 @@
-//! Made-up traces: lists of calls as bytes, some damaged, with answer buffers of any length.
+//! Made-up traces: lists of calls as bytes, some with recorded answers, some damaged, with answer buffers of
+//! any length.
 
+use crate::archive::Player;
 use crate::board::LONGEST_ADVANCE;
 use crate::call::Call;
 use crate::generator;
 use crate::random::Random;
-use crate::trace::{decoded, field_of, heading, trace_of, ANSWER, LONGEST_TRACE};
+use crate::recordings::{answers_of, any_answer, any_of};
+use crate::replay::recording;
+use crate::trace::{borders, decoded, field, field_of, field_of_answer, heading};
+use crate::trace::{trace_of, trace_of_fields, ANSWER, ANSWERED, LONGEST_TRACE};
 
 /// So many made-up traces are compared (01, section on the data sheet, d).
 pub const TRACES: u32 = 4_096;
 
 pub const SEED: u64 = 4_096_330;
 
+const NO_DAMAGE: &str = "no damage";
+
 pub struct MadeUp {
     pub trace: Vec<u8>,
+    /// Were recorded answers put in, perhaps none or damaged ones?
+    pub is_recording: bool,
     /// What was done to it; not every damage makes a trace that is refused.
     pub damage: &'static str,
     /// The answer buffer before the trace is played.
@@ -24,14 +33,23 @@ pub fn made_up(seed: u64, index: u32) -> MadeUp {
     let own_seed = Random::new(seed).bits() ^ u64::from(index);
     let mut random = Random::new(Random::new(own_seed).bits());
     let mut trace = any_trace(&mut random, index);
-    let damage = if random.one_in(6) {
-        damaged(&mut random, &mut trace)
-    } else {
-        "no damage"
-    };
+    let mut damage = NO_DAMAGE;
+    // One in four; with draws of its own, so that the calls are those of before 02's A6.
+    let is_recording = index % 4 == 3;
+    if is_recording {
+        damage = put_answers(&mut Random::new(!own_seed), &mut trace);
+    }
+    if random.one_in(6) {
+        let further = damaged(&mut random, &mut trace);
+        // There may be no field to damage; what was done before stays then.
+        if further != NO_DAMAGE {
+            damage = further;
+        }
+    }
     let answers = any_buffer(&mut random, &trace);
     MadeUp {
         trace,
+        is_recording,
         damage,
         answers,
     }
@@ -52,7 +70,7 @@ fn any_trace(random: &mut Random, index: u32) -> Vec<u8> {
 }
 
 /// 16,777,216 bytes are taken by a player, with 5,592,401 calls; one byte more is not.
-pub fn check_longest(play: fn(&[u8], &mut [u8]) -> u64) {
+pub fn check_longest(play: Player) {
     let mut trace = heading(0);
     trace.extend(field_of(&Call::Input {
         channel: 0,
@@ -69,6 +87,42 @@ pub fn check_longest(play: fn(&[u8], &mut [u8]) -> u64) {
     assert!(buffer.iter().all(|byte| *byte == 0));
     trace.push(0x05);
     assert_eq!(play(&trace, &mut buffer), 18);
+}
+
+// Recorded answers.
+
+/// Puts recorded answers into a trace, which a player passes over, right or not. Says what is wrong with them.
+fn put_answers(random: &mut Random, trace: &mut Vec<u8>) -> &'static str {
+    let (range, calls) = decoded(trace).expect("a good trace");
+    let mut recorded = any_of(random, &answers_of(range, &calls));
+    if random.one_in(2) {
+        for answer in recorded.iter_mut().flatten() {
+            *answer = any_answer(random);
+        }
+    }
+    *trace = trace_of_fields(range as u8, &recording(&calls, &recorded));
+    if random.one_in(3) {
+        damaged_answers(random, trace)
+    } else {
+        NO_DAMAGE
+    }
+}
+
+/// Puts one in where none may be, or one that is none.
+fn damaged_answers(random: &mut Random, trace: &mut Vec<u8>) -> &'static str {
+    let answer = field_of_answer(any_answer(random));
+    let any_place = random.pick(&borders(trace));
+    let (place, bytes, damage) = match random.below(3) {
+        0 => (8, answer, "09H after the heading"),
+        1 => (any_place, answer.repeat(2), "09H twice"),
+        _ => {
+            let length = random.pick(&[0, 1, 4, 6, 250]);
+            let bytes = field(ANSWERED, &vec![0; length]);
+            (any_place, bytes, "09H with another length")
+        }
+    };
+    trace.splice(place..place, bytes);
+    damage
 }
 
 // Damage.
@@ -127,9 +181,10 @@ fn damaged_heading(random: &mut Random, trace: &mut Vec<u8>) -> &'static str {
 
 /// A wrong tag or length in one of the later fields, if there are any.
 fn damaged_field(random: &mut Random, trace: &mut [u8]) -> &'static str {
-    let starts = field_starts(trace);
+    let mut starts = borders(trace);
+    starts.pop();
     if starts.is_empty() {
-        return "no damage";
+        return NO_DAMAGE;
     }
     let start = random.pick(&starts);
     match random.below(7) {
@@ -142,8 +197,8 @@ fn damaged_field(random: &mut Random, trace: &mut [u8]) -> &'static str {
             "field with no call's tag"
         }
         2 => {
-            // The first that is no call's.
-            trace[start] = 9;
+            // No call's; an input's length is that of a recorded answer.
+            trace[start] = ANSWERED;
             "field with tag 09H"
         }
         3 => {
@@ -167,21 +222,10 @@ fn long_or_short_look(random: &mut Random, trace: &mut [u8], starts: &[usize]) -
     let is_look = |start: &usize| matches!(trace[*start], 0x07 | 0x08);
     let looks: Vec<usize> = starts.iter().copied().filter(is_look).collect();
     if looks.is_empty() {
-        return "no damage";
+        return NO_DAMAGE;
     }
     trace[random.pick(&looks) + 1] = random.pick(&[0, 2, 3, 4]);
     "look or clear with another length"
-}
-
-/// Where the fields after the heading start.
-fn field_starts(trace: &[u8]) -> Vec<usize> {
-    let mut starts = Vec::new();
-    let mut start = 8;
-    while start < trace.len() {
-        starts.push(start);
-        start += 3 + usize::from(trace[start + 1]);
-    }
-    starts
 }
 
 // Answer buffers.

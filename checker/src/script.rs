@@ -9,9 +9,12 @@
 //! ```
 //!
 //! A call with nothing after it is accepted with value 0. A trailing H marks hexadecimal.
+//!
+//! A recording (02, A6) has calls alone, and after those whose answer is recorded `answered NUMBER VALUE`.
 
 use crate::analog::Answer;
 use crate::call::Call;
+use crate::trace::Field;
 use std::fmt::Display;
 use std::str::FromStr;
 
@@ -24,17 +27,29 @@ pub struct Step {
 
 /// The steps of a script: calls stand on lines of their own or between semicolons.
 pub fn steps(script: &str) -> Vec<Step> {
-    let without_comments = |line: &str| line.split('#').next().unwrap_or("").to_string();
-    let lines = script.lines().map(without_comments);
-    let mut steps = Vec::new();
-    for line in lines {
-        for text in line.split(';').map(str::trim) {
-            if !text.is_empty() {
-                steps.extend(steps_of(text));
-            }
+    texts(script).flat_map(steps_of).collect()
+}
+
+/// The fields of a recording, wherever its answers stand.
+pub fn fields(script: &str) -> Vec<Field> {
+    let fields_of = |text: &str| match text.split_whitespace().collect::<Vec<&str>>()[..] {
+        ["answered", question, value] => vec![Field::Answered(Answer {
+            number: number::<u8>(question).into(),
+            value: number::<u32>(value).into(),
+        })],
+        ref words => {
+            let calls = calls_of(words).unwrap_or_else(|| panic!("no call: {text}"));
+            calls.into_iter().map(Field::Call).collect()
         }
-    }
-    steps
+    };
+    texts(script).flat_map(fields_of).collect()
+}
+
+/// What stands on lines or between semicolons, without comments.
+fn texts(script: &str) -> impl Iterator<Item = &str> {
+    let lines = script.lines().filter_map(|line| line.split('#').next());
+    let texts = lines.flat_map(|line| line.split(';')).map(str::trim);
+    texts.filter(|text| !text.is_empty())
 }
 
 fn steps_of(text: &str) -> Vec<Step> {
@@ -135,6 +150,34 @@ mod tests {
             assert_eq!(step.call.to_string(), call);
             assert_eq!(step.expected, Answer { number, value });
         }
+    }
+
+    #[test]
+    fn recorded_answers_are_read() {
+        let script = "
+            trigger; answered 255 FFFFFFFFH # any five bytes
+            read 16 28H
+            answered 3 0; answered 0AH 70,000
+        ";
+        let answered = |number, value| Field::Answered(Answer { number, value });
+        let read = Call::Read {
+            width: 16,
+            offset: 0x28,
+        };
+        let expected = [
+            Field::Call(Call::Trigger),
+            answered(255, 0xFFFF_FFFF),
+            Field::Call(read),
+            answered(3, 0),
+            answered(10, 70_000),
+        ];
+        assert_eq!(fields(script), expected);
+    }
+
+    #[test]
+    #[should_panic(expected = "no call: answered 0")]
+    fn half_an_answer_is_noticed() {
+        fields("trigger; answered 0");
     }
 
     #[test]

@@ -1,5 +1,5 @@
 //! Traces: their bytes, the player and the text program, from the section of 01 with this name; tags 07H
-//! and 08H from 02 (A2).
+//! and 08H from 02 (A2), 09H and question 26 from 02 (A6).
 
 use crate::analog::Answer;
 use crate::board::Board;
@@ -13,6 +13,17 @@ pub const LONGEST_INPUT: usize = 32_768;
 
 /// The bytes of an answer: number 1, value 4.
 pub const ANSWER: usize = 5;
+
+/// The tag of a recorded answer.
+pub const ANSWERED: u8 = 0x09;
+
+/// A field after the heading.
+#[derive(Clone, Copy, Debug, PartialEq, Eq)]
+pub enum Field {
+    Call(Call),
+    /// "Field 09H (number 1, value 4) follows any call and says what the board answered."
+    Answered(Answer),
+}
 
 // Building.
 
@@ -62,6 +73,10 @@ pub fn field_of(call: &Call) -> Vec<u8> {
     }
 }
 
+pub fn field_of_answer(answer: Answer) -> Vec<u8> {
+    field(ANSWERED, &answer_bytes(answer))
+}
+
 pub fn trace_of(range: u8, calls: &[Call]) -> Vec<u8> {
     let mut trace = heading(range);
     for call in calls {
@@ -70,20 +85,45 @@ pub fn trace_of(range: u8, calls: &[Call]) -> Vec<u8> {
     trace
 }
 
+/// A trace with recorded answers in it, wherever they stand.
+pub fn trace_of_fields(range: u8, fields: &[Field]) -> Vec<u8> {
+    let mut trace = heading(range);
+    for field in fields {
+        trace.extend(match field {
+            Field::Call(call) => field_of(call),
+            Field::Answered(answer) => field_of_answer(*answer),
+        });
+    }
+    trace
+}
+
 // Reading.
 
 /// Tag and body of the first field, and the bytes after it; none if the field isn't whole.
-fn first_field(bytes: &[u8]) -> Option<(u8, &[u8], &[u8])> {
+pub(crate) fn first_field(bytes: &[u8]) -> Option<(u8, &[u8], &[u8])> {
     let (start, rest) = bytes.split_at_checked(3)?;
     let length = u16::from_le_bytes([start[1], start[2]]);
     let (body, rest) = rest.split_at_checked(length.into())?;
     Some((start[0], body, rest))
 }
 
+/// Where the fields after the heading start and where the last one ends, or should end if it is cut off.
+pub fn borders(trace: &[u8]) -> Vec<usize> {
+    let byte = |place: usize| trace.get(place).copied().unwrap_or(0);
+    let mut borders = vec![8];
+    let mut end = 8;
+    while end < trace.len() {
+        let length = u16::from_le_bytes([byte(end + 1), byte(end + 2)]);
+        end += 3 + usize::from(length);
+        borders.push(end);
+    }
+    borders
+}
+
 /// Hands the call of a field on; none if its tag isn't a call's, or its length isn't that call's.
 /// Each kind is handed on by itself, so that a player needn't tell them apart once more.
 #[inline]
-fn handed_on<R>(tag: u8, body: &[u8], to: impl FnOnce(Call) -> R) -> Option<R> {
+pub(crate) fn handed_on<R>(tag: u8, body: &[u8], to: impl FnOnce(Call) -> R) -> Option<R> {
     let result = match (tag, body) {
         (0x01, &[width, low, high]) => to(Call::Read {
             width,
@@ -122,54 +162,90 @@ fn headed(trace: &[u8]) -> Option<(u32, &[u8])> {
     }
 }
 
-/// The bytes in the body of each tag's call, tags 01H to 08H.
-const BODIES: [usize; 8] = [3, 7, 5, 4, 0, 0, 1, 1];
+/// The bytes in the body of each tag's field: the calls' 01H to 08H, and 09H.
+const BODIES: [usize; 9] = [3, 7, 5, 4, 0, 0, 1, 1, ANSWER];
 
-/// Question 19: "Is every later field whole, with a call's tag and its length?" How many there are.
-fn count_of(mut bytes: &[u8]) -> Option<usize> {
+/// Question 19: "Is every later field whole, with a call's tag and its length?" "19 admits 09H".
+/// Question 26: "a 09H field whose previous field isn't a call, after 19". How many calls there are.
+fn count_of(mut bytes: &[u8]) -> Result<usize, u64> {
     let mut count = 0;
+    // The heading is no call.
+    let (mut is_after_call, mut is_stray_met) = (false, false);
     while !bytes.is_empty() {
-        let (tag, body, rest) = first_field(bytes)?;
+        let (tag, body, rest) = first_field(bytes).ok_or(19_u64)?;
         if BODIES.get(usize::from(tag).wrapping_sub(1)) != Some(&body.len()) {
-            return None;
+            return Err(19);
         }
-        count += 1;
+        let is_call = tag != ANSWERED;
+        is_stray_met |= !is_call & !is_after_call;
+        count += usize::from(is_call);
+        is_after_call = is_call;
         bytes = rest;
     }
-    Some(count)
+    // Only here: a field further on may be one that 19 refuses.
+    if is_stray_met {
+        return Err(26);
+    }
+    Ok(count)
 }
 
-/// Questions 18 and 19: the range of a trace, the bytes of its calls, and how many they are.
-fn asked(trace: &[u8]) -> Result<(u32, &[u8], usize), u64> {
+/// Questions 18, 19 and 26: the range of a trace, the bytes after its heading, and how many calls they hold.
+pub(crate) fn asked(trace: &[u8]) -> Result<(u32, &[u8], usize), u64> {
     let (range, bytes) = headed(trace).ok_or(18_u64)?;
-    let count = count_of(bytes).ok_or(19_u64)?;
+    let count = count_of(bytes)?;
     Ok((range, bytes, count))
+}
+
+/// The range and the fields of a trace.
+pub fn fields_of(trace: &[u8]) -> Result<(u32, Vec<Field>), u64> {
+    let (range, mut bytes, _) = asked(trace)?;
+    let mut fields = Vec::new();
+    while let Some((tag, body, rest)) = first_field(bytes) {
+        let call = handed_on(tag, body, Field::Call);
+        fields.push(call.unwrap_or_else(|| Field::Answered(answer_of_bytes(body))));
+        bytes = rest;
+    }
+    Ok((range, fields))
 }
 
 /// The range and the calls of a trace.
 pub fn decoded(trace: &[u8]) -> Result<(u32, Vec<Call>), u64> {
-    let (range, mut bytes, count) = asked(trace)?;
-    let mut calls = Vec::with_capacity(count);
-    while let Some((tag, body, rest)) = first_field(bytes) {
-        calls.extend(handed_on(tag, body, |call| call));
-        bytes = rest;
-    }
-    Ok((range, calls))
+    let (range, fields) = fields_of(trace)?;
+    let call = |field| match field {
+        Field::Call(call) => Some(call),
+        Field::Answered(_) => None,
+    };
+    Ok((range, fields.into_iter().filter_map(call).collect()))
+}
+
+/// Is there a recorded answer in a trace that isn't refused?
+pub fn has_answers(trace: &[u8]) -> bool {
+    let is_answer = |field: &Field| matches!(field, Field::Answered(_));
+    fields_of(trace).is_ok_and(|(_, fields)| fields.iter().any(is_answer))
 }
 
 // Playing.
 
-fn new_board(range: u32) -> Board {
+pub(crate) fn new_board(range: u32) -> Board {
     let (board, answer) = Board::new(range);
     assert_eq!(answer.number, 0, "question 18 asks for a range of 0 to 3");
     board
 }
 
 fn answer_bytes(answer: Answer) -> [u8; ANSWER] {
-    let number = u8::try_from(answer.number).expect("numbers of calls are at most 22");
-    let value = u32::try_from(answer.value).expect("values of calls have 32 bits");
+    let number = u8::try_from(answer.number).expect("a number has one byte");
+    let value = u32::try_from(answer.value).expect("a value has 32 bits");
     let [a, b, c, d] = value.to_le_bytes();
     [number, a, b, c, d]
+}
+
+/// Number and value of five bytes.
+#[inline]
+pub fn answer_of_bytes(bytes: &[u8]) -> Answer {
+    Answer {
+        number: bytes[0].into(),
+        value: u32::from_le_bytes([bytes[1], bytes[2], bytes[3], bytes[4]]).into(),
+    }
 }
 
 /// Plays a trace; gives 256 * calls answered + number. A refused trace leaves the buffer as it is.
@@ -183,10 +259,13 @@ pub fn play(trace: &[u8], answers: &mut [u8]) -> u64 {
         return 20;
     }
     let mut board = new_board(range);
-    for place in answers.chunks_exact_mut(ANSWER).take(count) {
-        let (tag, body, rest) = first_field(bytes).expect("question 19 is met");
-        let answer = handed_on(tag, body, |call| board.call(&call)).expect("question 19 is met");
-        place.copy_from_slice(&answer_bytes(answer));
+    let mut places = answers.chunks_exact_mut(ANSWER);
+    while let Some((tag, body, rest)) = first_field(bytes) {
+        // "The player passes over it": a recorded answer is handed on to nobody.
+        if let Some(answer) = handed_on(tag, body, |call| board.call(&call)) {
+            let place = places.next().expect("question 20 is met");
+            place.copy_from_slice(&answer_bytes(answer));
+        }
         bytes = rest;
     }
     256 * count as u64

@@ -1,6 +1,7 @@
-//! The archive's player against the independent one: made-up traces, typed-in cases, every width,
-//! offset, slot and Control word, and the longest trace.
+//! The archive's player and replay against the independent ones: made-up traces, every heading, width, offset,
+//! slot and Control word. And typed-in cases and the longest trace on its player.
 
+use checker::analog::Answer;
 use checker::archive;
 use checker::before_arming::arms_by_trigger;
 use checker::board::Board;
@@ -9,8 +10,10 @@ use checker::cases;
 use checker::generator::hostile;
 use checker::made_up::{check_longest, made_up, SEED, TRACES};
 use checker::random::seed_or;
+use checker::replay::replay;
 use checker::script::steps;
-use checker::trace::{self, decoded, field, heading, trace_of};
+use checker::shortened::shortened;
+use checker::trace::{self, answer_of_bytes, decoded, field, has_answers, heading, trace_of};
 
 /// Bytes before and after the buffer that is lent; nobody may write them.
 const GUARD: usize = 64;
@@ -36,17 +39,23 @@ fn by_independent(trace: &[u8], answers: &[u8]) -> (u64, Vec<u8>) {
     (result, buffer)
 }
 
-/// The same result and the same byte in every place of the buffer, or a short list that differs.
-/// Gives the result.
+/// The same result and the same byte in every place of the buffer, or a short list that differs; and the same
+/// from a replay of these bytes. Gives the result.
 fn compare(name: &str, trace: &[u8], answers: &[u8]) -> u64 {
     let archive = by_archive(trace, answers);
     let independent = by_independent(trace, answers);
     if archive == independent {
+        let (replayed, expected) = (archive::replay(trace), replay(trace).packed());
+        assert_eq!(replayed, expected, "{name}: the archive's replay (left)");
         return archive.0;
     }
     let (result, expected) = (archive.0, independent.0);
     let report = match decoded(trace) {
-        Ok((range, calls)) if result == expected => shortest_difference(range as u8, calls),
+        Ok((range, calls)) if differ(range as u8, &calls) => {
+            let range = range as u8;
+            side_by_side(range, &shortened(calls, |calls| differ(range, calls)))
+        }
+        Ok((_, calls)) => format!("its {} calls alone are played alike", calls.len()),
         _ => format!("{} bytes, buffer of {}", trace.len(), answers.len()),
     };
     panic!("{name}: the archive gives {result}, expected {expected}\n{report}");
@@ -59,25 +68,6 @@ fn differ(range: u8, calls: &[Call]) -> bool {
     let trace = trace_of(range, calls);
     let answers = vec![0; 5 * calls.len()];
     by_archive(&trace, &answers) != by_independent(&trace, &answers)
-}
-
-/// Leaves out ever smaller pieces of the list, as long as the two still differ.
-fn shortest_difference(range: u8, mut calls: Vec<Call>) -> String {
-    let mut size = calls.len().next_power_of_two();
-    while size > 0 && differ(range, &calls) {
-        let mut start = 0;
-        while start < calls.len() {
-            let end = (start + size).min(calls.len());
-            let without = [&calls[..start], &calls[end..]].concat();
-            if differ(range, &without) {
-                calls = without;
-            } else {
-                start = end;
-            }
-        }
-        size /= 2;
-    }
-    side_by_side(range, &calls)
 }
 
 fn side_by_side(range: u8, calls: &[Call]) -> String {
@@ -96,14 +86,15 @@ fn side_by_side(range: u8, calls: &[Call]) -> String {
 }
 
 fn shown(answer: &[u8]) -> String {
-    let value = u32::from_le_bytes([answer[1], answer[2], answer[3], answer[4]]);
-    format!("{:>2} {value:08X}", answer[0])
+    let Answer { number, value } = answer_of_bytes(answer);
+    format!("{number:>2} {value:08X}")
 }
 
 #[test]
 fn made_up_traces() {
     let seed = seed_or(SEED);
-    let mut numbers = [0; 21];
+    let mut numbers = [0; 27];
+    let mut recordings = 0;
     let mut arming = 0;
     for index in 0..TRACES {
         let made = made_up(seed, index);
@@ -113,6 +104,7 @@ fn made_up_traces() {
         numbers[number as usize] += 1;
         if number == 0 {
             arming += triggers_before_arming(&made.trace);
+            recordings += u32::from(has_answers(&made.trace));
         }
         if index % 16 == 0 {
             // Nothing is left over from what was played before.
@@ -121,11 +113,12 @@ fn made_up_traces() {
         }
     }
     println!("{TRACES} traces drawn from seed {seed}");
-    for number in [0, 18, 19, 20] {
+    for number in [0, 18, 19, 26, 20] {
         println!("{:>9}  number {number}", numbers[number]);
     }
     println!("{arming:>9}  triggers before arming in those that are played");
-    assert!(arming > 1_000);
+    println!("{recordings:>9}  with recorded answers among those that are played");
+    assert!(arming > 1_000 && recordings > 300);
 }
 
 /// How many triggers of a trace begin an armed cycle (02, A4).
@@ -149,11 +142,9 @@ fn typed_in_cases() {
         let (result, buffer) = by_archive(&trace_of(case.range, &calls), &vec![7; 5 * calls.len()]);
         assert_eq!(result, 256 * calls.len() as u64, "{}", case.name);
         for (index, step) in steps.iter().enumerate() {
-            let bytes = &buffer[5 * index..5 * index + 5];
-            let value = u32::from_le_bytes([bytes[1], bytes[2], bytes[3], bytes[4]]);
             assert_eq!(
-                (u64::from(bytes[0]), u64::from(value)),
-                (step.expected.number, step.expected.value),
+                answer_of_bytes(&buffer[5 * index..]),
+                step.expected,
                 "{}, call {}, {}: the archive (left)",
                 case.name,
                 index + 1,
@@ -179,7 +170,7 @@ fn typed_in_traces() {
     }
 }
 
-/// Every byte of the heading, and every tag with every length of a body.
+/// Every byte of the heading, and every tag with every length of a body, after the heading, a call and a 09H.
 #[test]
 fn every_heading_and_field() {
     for (place, byte) in (0..8).flat_map(|place| (0..=255).map(move |byte| (place, byte))) {
@@ -188,8 +179,12 @@ fn every_heading_and_field() {
         compare("heading", &trace, &[7; 3]);
     }
     for (tag, length) in (0..=255).flat_map(|tag| (0..300).map(move |length| (tag, length))) {
-        let trace = [heading(0), field(tag, &vec![0; length])].concat();
-        compare("field", &trace, &[7; 6]);
+        let mut trace = heading(0);
+        for before in [&[][..], &[0x05, 0, 0], &[0x09, 5, 0, 0, 0, 0, 0, 0]] {
+            trace.extend(before);
+            let trace = [&trace[..], &field(tag, &vec![0; length])].concat();
+            compare("field", &trace, &[7; 11]);
+        }
     }
 }
 

@@ -12,7 +12,8 @@ use checker::made_up::{check_longest, made_up, MadeUp, SEED, TRACES};
 use checker::moments::{all_kinds, played, Accesses};
 use checker::random::seed_or;
 use checker::script::steps;
-use checker::trace::{self, decoded, field, field_of, heading, lines, play, printed, trace_of};
+use checker::trace::{self, answer_of_bytes, decoded, field, field_of, has_answers, heading};
+use checker::trace::{lines, play, printed, trace_of};
 use std::collections::BTreeMap;
 
 /// What came of one made-up trace.
@@ -28,11 +29,7 @@ fn play_made_up(made: &MadeUp) -> Played {
 }
 
 fn answers_of(bytes: &[u8]) -> Vec<Answer> {
-    let answer = |bytes: &[u8]| Answer {
-        number: bytes[0].into(),
-        value: u32::from_le_bytes([bytes[1], bytes[2], bytes[3], bytes[4]]).into(),
-    };
-    bytes.chunks_exact(5).map(answer).collect()
+    bytes.chunks_exact(5).map(answer_of_bytes).collect()
 }
 
 #[test]
@@ -72,13 +69,18 @@ fn what_made_up_traces_do_to_their_buffers() {
     let seed = seed_or(SEED);
     let mut met = BTreeMap::new();
     let mut damages = BTreeMap::new();
+    let mut recordings = 0;
     for index in 0..TRACES {
         let made = made_up(seed, index);
         let Played { result, buffer } = play_made_up(&made);
         let (calls, number) = (result as usize / 256, result % 256);
         let name = format!("seed {seed}, trace {index}");
         assert_eq!(number, expected_number(&made), "{name}");
-        assert!(number == 19 || !is_no_call(made.damage), "{name}");
+        let damage = made.damage;
+        assert!(
+            is_number_after(damage, number),
+            "{name}, {damage}: {number}"
+        );
         let written = 5 * calls;
         assert_eq!(buffer.len(), made.answers.len(), "{name}");
         assert_eq!(buffer[written..], made.answers[written..], "{name}: beyond");
@@ -88,24 +90,43 @@ fn what_made_up_traces_do_to_their_buffers() {
             _ => format!("refused with {number}, buffer unchanged"),
         };
         *met.entry(kind).or_insert(0) += 1;
+        recordings += u32::from(number == 0 && has_answers(&made.trace));
         *damages.entry(made.damage.to_string()).or_insert(0) += 1;
     }
     print_counts(&met);
+    println!("{recordings:>9}  played, with recorded answers");
+    assert!((300..TRACES / 4).contains(&recordings));
     print_counts(&damages);
-    assert_eq!(met.len(), 5, "played in two ways, refused in three");
+    assert_eq!(met.len(), 6, "played in two ways, refused in four");
     assert!(met.values().all(|count| *count >= 100));
-    assert_eq!(damages.len(), 17, "every kind of damage");
+    assert_eq!(damages.len(), 20, "every kind of damage");
     assert!(damages.values().all(|count| *count >= 5));
 }
 
-/// Damage after which a field cannot be a call's.
-fn is_no_call(damage: &str) -> bool {
-    matches!(
-        damage,
-        "field with no call's tag" | "field with tag 09H" | "look or clear with another length"
-    )
+/// Can damage of this name give this number? By the name alone, without asking the trace. Where a trace was damaged
+/// twice, the name is that of the second damage; 18 and 19 are asked before 26.
+fn is_number_after(damage: &str, number: u64) -> bool {
+    match damage {
+        "no damage" => matches!(number, 0 | 20),
+        "heading with a wrong tag"
+        | "heading with a wrong length"
+        | "heading with a far greater length"
+        | "heading with a wrong letter"
+        | "heading cut"
+        | "range above 3"
+        | "field and heading" => number == 18,
+        "second heading's tag"
+        | "field with no call's tag"
+        | "field with a far greater length"
+        | "look or clear with another length"
+        | "09H with another length" => number == 19,
+        "09H after the heading" | "09H twice" => number == 26,
+        // Such damage may leave a good trace, by chance.
+        _ => true,
+    }
 }
 
+/// The number by the questions that the player asks too, and by the length of the buffer.
 fn expected_number(made: &MadeUp) -> u64 {
     match decoded(&made.trace) {
         Err(number) => number,
@@ -238,7 +259,7 @@ fn fields_of_calls() {
 }
 
 #[test]
-fn questions_18_to_20() {
+fn questions_18_to_20_and_26() {
     for (fields, length, result) in cases::TRACES {
         let trace = fields.concat();
         let mut buffer = vec![0xA5; *length];
@@ -264,7 +285,7 @@ fn every_byte_of_the_heading() {
     }
 }
 
-/// A field is a call's with that call's tag and length only.
+/// A field is a call's or a recorded answer with that tag and length only.
 #[test]
 fn every_tag_and_length() {
     let calls = [
@@ -278,14 +299,15 @@ fn every_tag_and_length() {
         (8, 1),
     ];
     for (tag, length) in (0..=255).flat_map(|tag| (0..300).map(move |length| (tag, length))) {
-        let trace = [heading(0), field(tag, &vec![0; length])].concat();
-        let is_call = calls.contains(&(tag, length));
-        let expected = if is_call { 256 } else { 19 };
-        assert_eq!(
-            play(&trace, &mut [0; 5]),
-            expected,
-            "tag {tag}, length {length}"
-        );
+        let field = field(tag, &vec![0; length]);
+        let [alone, after_call] = [vec![], field_of(&Call::Trigger)]
+            .map(|before| play(&[heading(0), before, field.clone()].concat(), &mut [0; 10]));
+        let expected = match (tag, length) {
+            (9, 5) => (26, 256),
+            _ if calls.contains(&(tag, length)) => (256, 512),
+            _ => (19, 19),
+        };
+        assert_eq!((alone, after_call), expected, "tag {tag}, length {length}");
     }
 }
 

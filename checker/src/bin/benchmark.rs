@@ -1,11 +1,11 @@
 //! How fast the archive plays, beside the independent program and, if PMC330_OLD_ARCHIVE named one
 //! when this was built, beside an older archive: mixed traces, single kinds of calls, a short, a
 //! longer and the longest advance in each scan mode, the longest trace, and the same calls stepped one
-//! by one; and how fast it sums over a window, beside a plain loop. Best of several rounds, the players
-//! in turn within a round.
+//! by one; how fast it replays a recording, beside playing it; and how fast it sums over a window, beside
+//! a plain loop. Best of several rounds, the players in turn within a round.
 //!
-//! Run it with `cargo run --release --offline --bin benchmark`; with `-- stepping` or `-- window` only
-//! that part.
+//! Run it with `cargo run --release --offline --bin benchmark`; with `-- stepping`, `-- replay` or
+//! `-- window` only that part.
 
 use checker::archive::{self, Player, OLD_PLAYER};
 use checker::board::LONGEST_ADVANCE;
@@ -13,8 +13,9 @@ use checker::call::Call;
 use checker::generator::{hostile, long_advances, middle_advances, short_advances};
 use checker::one_kind::{kinds, started, write_16, Kind};
 use checker::random::Random;
+use checker::replay::{recording, replay};
 use checker::stepped::SteppedBoard;
-use checker::trace::{self, decoded, trace_of};
+use checker::trace::{self, answer_of_bytes, decoded, trace_of, trace_of_fields};
 use checker::window::{plain, Window, LENGTHS};
 use std::hint::black_box;
 use std::time::Instant;
@@ -58,11 +59,16 @@ fn timed(load: &Load, player: Player, times: usize, answers: &mut [u8]) -> f64 {
 }
 
 /// One round of those that are compared, in turn, so that a slow moment of the machine meets them all.
-/// Each round begins with another one of them. Keeps the best nanoseconds of each for one of what is
-/// counted.
+/// Each round begins with another one of them, and odd ones go backwards, so that none always finds the
+/// caches as the same other one left them. Keeps the best nanoseconds of each for one of what is counted.
 fn in_turn(round: usize, counted: usize, best: &mut [f64], mut seconds: impl FnMut(usize) -> f64) {
     for turn in 0..best.len() {
-        let which = (round + turn) % best.len();
+        let steps = if round % 2 == 1 {
+            best.len() - turn
+        } else {
+            turn
+        };
+        let which = (round + steps) % best.len();
         let nanoseconds = seconds(which) * 1e9 / counted as f64;
         best[which] = best[which].min(nanoseconds);
     }
@@ -185,10 +191,14 @@ fn is_measured(kind: &Kind) -> bool {
 }
 
 fn single_kinds() {
-    let (measured, left_out): (Vec<Kind>, Vec<Kind>) = kinds().into_iter().partition(is_measured);
-    let loads: Vec<Load> = measured.iter().map(load_of).collect();
+    let measured = kinds().into_iter().filter(is_measured);
+    let loads: Vec<Load> = measured.map(|kind| load_of(&kind)).collect();
     table("one kind of call, each", "times", &loads);
-    for kind in left_out {
+    name_those_left_out();
+}
+
+fn name_those_left_out() {
+    for kind in kinds().iter().filter(|kind| !is_measured(kind)) {
         println!("  {}: the old archive does not do this", kind.name);
     }
 }
@@ -357,6 +367,114 @@ fn stepping() {
     }
 }
 
+// Replays, beside playing the same bytes: a trace, and its recording with a right answer after every call.
+
+/// The load of a trace, and the one of its recording.
+struct Pair {
+    alone: Load,
+    recorded: Load,
+}
+
+fn pair(alone: Load) -> Pair {
+    let (range, calls) = decoded(&alone.trace).expect("a good trace");
+    let mut answers = vec![0; 5 * alone.calls];
+    trace::play(&alone.trace, &mut answers);
+    let right = answers.chunks_exact(5).map(answer_of_bytes).map(Some);
+    let fields = recording(&calls, &right.collect::<Vec<_>>());
+    let trace = trace_of_fields(range as u8, &fields);
+    let recorded = Load { trace, ..alone };
+    Pair { alone, recorded }
+}
+
+fn independent_replay(trace: &[u8]) -> u64 {
+    replay(trace).packed()
+}
+
+/// Seconds that a replay takes, so many times. So many recorded answers are compared, and all agree.
+fn timed_replay(load: &Load, replay: fn(&[u8]) -> u64, times: usize, compared: usize) -> f64 {
+    let start = Instant::now();
+    for _ in 0..times {
+        let result = replay(black_box(&load.trace));
+        assert_eq!(result, (compared as u64) << 32, "{}", load.name);
+    }
+    start.elapsed().as_secs_f64()
+}
+
+/// One round: the archive plays and replays the trace and its recording; the independent program replays the
+/// recording; an old archive, if there is one, plays the trace.
+fn replay_a_round(pair: &Pair, round: usize, best: &mut [f64]) {
+    let Pair { alone, recorded } = pair;
+    let calls = alone.calls;
+    let times = CALLS_IN_A_ROUND.div_ceil(calls);
+    let mut answers = [0, 1, 2].map(|filling| vec![filling; 5 * calls]);
+    let [first, second, third] = &mut answers;
+    in_turn(round, times * alone.counted, best, |which| match which {
+        0 => timed(alone, archive::play, times, first),
+        1 => timed_replay(alone, archive::replay, times, 0),
+        2 => timed(recorded, archive::play, times, second),
+        3 => timed_replay(recorded, archive::replay, times, calls),
+        4 => timed_replay(recorded, independent_replay, times, calls),
+        _ => timed(alone, OLD_PLAYER.expect("it is measured"), times, third),
+    });
+    let played = 2 + usize::from(OLD_PLAYER.is_some());
+    for other in &answers[1..played] {
+        assert!(*other == answers[0], "{}: answers differ", alone.name);
+    }
+}
+
+fn replay_table(title: &str, counted: &str, pairs: &[Pair]) {
+    let compared = 5 + usize::from(OLD_PLAYER.is_some());
+    let mut best = vec![vec![f64::INFINITY; compared]; pairs.len()];
+    for round in 0..ROUNDS {
+        for (pair, best) in pairs.iter().zip(&mut best) {
+            replay_a_round(pair, round, best);
+        }
+    }
+    replay_head(title, counted);
+    for (pair, times) in pairs.iter().zip(best) {
+        replay_line(&pair.alone, &times);
+    }
+}
+
+/// The columns, under what is played and replayed in them.
+fn replay_head(title: &str, counted: &str) {
+    let (old, width) = match OLD_PLAYER {
+        Some(_) => (format!("{:>12}{:>9}", "old", "/ old"), 45),
+        None => (String::new(), 24),
+    };
+    println!("{:46}{:width$}a 09H after every call", "", "no 09H");
+    print!("{title:<32}{counted:>9}{:>11}{old}", "played");
+    print!("{:>12}", "replayed /");
+    print!("{:>12}{:>10}", "played", "/ no 09H");
+    print!("{:>12}{:>10}", "replayed", "/ played");
+    println!("{:>14}{:>10}", "independent", "/ indep.");
+}
+
+fn replay_line(load: &Load, times: &[f64]) {
+    let [alone, alone_replayed, played, replayed, independent, ..] = times[..] else {
+        panic!("five at least are measured");
+    };
+    print!("{:<32}{:>9}{alone:>8.1} ns", load.name, load.counted);
+    if let Some(old) = times.get(5) {
+        print!("{old:>9.1} ns{:>9.3}", alone / old);
+    }
+    print!("{:>12.3}", alone_replayed / alone);
+    print!("{played:>9.1} ns{:>10.3}", played / alone);
+    print!("{replayed:>9.1} ns{:>10.3}", replayed / played);
+    println!("{independent:>11.1} ns{:>10.3}", replayed / independent);
+}
+
+fn replays() {
+    let mixed = mixed_loads().into_iter().take(3).map(pair);
+    let mixed: Vec<Pair> = mixed.collect();
+    replay_table("recordings, mixed calls, each", "calls", &mixed);
+    println!();
+    let measured = kinds().into_iter().filter(is_measured);
+    let single: Vec<Pair> = measured.map(|kind| pair(load_of(&kind))).collect();
+    replay_table("recordings, one kind, each", "times", &single);
+    name_those_left_out();
+}
+
 // The window: a run of codes, and the sum of the last ones after each.
 
 /// Codes in a run: a few more than the longest window, and many.
@@ -434,6 +552,7 @@ fn window() {
 fn main() {
     match std::env::args().nth(1).as_deref() {
         Some("stepping") => return stepping(),
+        Some("replay") => return replays(),
         Some("window") => return window(),
         _ => (),
     }
@@ -446,6 +565,8 @@ fn main() {
     longest_trace();
     println!();
     stepping();
+    println!();
+    replays();
     println!();
     window();
 }

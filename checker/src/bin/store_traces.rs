@@ -10,6 +10,6 @@ fn main() -> io::Result<()> {
     let stored = stored();
     fs::write(format!("{folder}/stdin"), &stored.input)?;
     fs::write(format!("{folder}/stdout"), &stored.output)?;
-    println!("{} traces", stored.traces);
+    println!("{} traces", stored.traces.len());
     Ok(())
 }

@@ -1,4 +1,4 @@
--- Document 01, "Traces": the lines that the program prints, as bytes.
+-- Document 01, "Traces": the lines that the program prints, as bytes; and 02, A6's: those of a replay.
 use Prim.Native.Nat.{ℕ, zero, suc, _+_, _*_, _/_, _%_, _≤_}
 use mathlib.Core.Bool.{cond, _&&_}
 use mathlib.Core.List.{List, [], _∷_, _++_}
@@ -47,6 +47,19 @@ refusedWord = 114 ∷ 101 ∷ 102 ∷ 117 ∷ 115 ∷ 101 ∷ 100 ∷ 32 ∷ []
 -- "A refused trace prints `refused` and its number, alone."
 unfoldable pub refusedOf : (number : ℕ) → List ℕ
 refusedOf number = refusedWord ++ decimalOf number ++ newline
+
+-- 02, A6: "says that all agree, with how many were compared": `agree` and the count; or `differs`, the index and the count
+abbrev pub agreeWord : List ℕ
+agreeWord = 97 ∷ 103 ∷ 114 ∷ 101 ∷ 101 ∷ 32 ∷ []
+
+unfoldable pub agreeOf : (count : ℕ) → List ℕ
+agreeOf count = agreeWord ++ decimalOf count ++ newline
+
+abbrev pub differsWord : List ℕ
+differsWord = 100 ∷ 105 ∷ 102 ∷ 102 ∷ 101 ∷ 114 ∷ 115 ∷ 32 ∷ []
+
+unfoldable pub differsOf : (index count : ℕ) → List ℕ
+differsOf index count = differsWord ++ decimalOf index ++ blank ++ decimalOf count ++ newline
 
 -- "Each call's 5-byte answer (number 1, value 4)", "numbers low byte first"
 abbrev pub numberIn : (answers : List ℕ) (at : ℕ) → ℕ

@@ -1,10 +1,10 @@
-// The lines that the program prints: one for each call, or one for a refused trace.
-ghost use mathlib.Core.List.{[], _∷_};
+// The lines that the programs print: one for each call, or one for a refused trace; and one for a replay.
+ghost use mathlib.Core.List.{[], _∷_, _++_};
 ghost use mathlib.Core.Path.{_≡_};
 ghost use Prim.Native.Nat.{_+_, _*_, _≤_, _<_};
 ghost use lib.ListN.{length};
 ghost use Rattle.lines.specs.Parts.{pasted};
-ghost use Rattle.lines.specs.Text.{digitOf, digitsOf, decimalOf, refusedWord, lineOf, refusedOf, wordIn, callLine, taken, takenLines, Begins};
+ghost use Rattle.lines.specs.Text.{digitOf, digitsOf, decimalOf, newline, lineOf, refusedOf, agreeOf, differsOf, wordIn, callLine, taken, takenLines, Begins};
 
 fn digit(n: u32) -> u8
     requires { ⌜ n < 16 ⌝ }
@@ -77,31 +77,58 @@ pub fn put_line(out: &mut [u8], index: u32, number: u8, value: u32) -> usize
     second + 10
 }
 
-fn put_refused_word(out: &mut [u8])
-    requires { ⌜ 8 ≤ length (now out) ⌝ }
-    ensures { λ _. ⌜ now (out .exit) ≡ pasted (now (out .entry)) 0 refusedWord ⌝ }
+fn put_word(out: &mut [u8], word: &[u8])
+    requires { ⌜ length (now word) ≤ length (now out) ⌝ }
+    ensures { λ _. ⌜ now (out .exit) ≡ pasted (now (out .entry)) 0 (now (word .entry)) ⌝ }
 {
-    out[0] = b'r';
-    out[1] = b'e';
-    out[2] = b'f';
-    out[3] = b'u';
-    out[4] = b's';
-    out[5] = b'e';
-    out[6] = b'd';
-    out[7] = b' ';
+    let mut i: usize = 0;
+    while i < word.len() {
+        out[i] = word[i];
+        i += 1;
+    }
+}
+
+// A line of a word and a number, likewise.
+fn put_numbered(out: &mut [u8], word: &[u8], number: u32) -> usize
+    requires { ⌜ length (now word) ≤ 8 ⌝ }
+    ensures { λ r. ⌜ Begins (taken (now (word .entry) ++ decimalOf number ++ newline) (now (out .entry))) (now (out .entry)) (now (out .exit)) r ⌝ }
+{
+    if out.len() < 32 {
+        return 0;
+    }
+    put_word(out, word);
+    let end = put_decimal(out, word.len(), number);
+    put_byte(out, end, b'\n');
+    end + 1
 }
 
 // A refused trace's line, likewise.
 pub fn put_refused(out: &mut [u8], number: u8) -> usize
     ensures { λ r. ⌜ Begins (taken (refusedOf number) (now (out .entry))) (now (out .entry)) (now (out .exit)) r ⌝ }
 {
+    put_numbered(out, b"refused ", number as u32)
+}
+
+// The line of a replay in which all agree, likewise.
+pub fn put_agree(out: &mut [u8], count: u32) -> usize
+    ensures { λ r. ⌜ Begins (taken (agreeOf count) (now (out .entry))) (now (out .entry)) (now (out .exit)) r ⌝ }
+{
+    put_numbered(out, b"agree ", count)
+}
+
+// The line of a replay with a difference, likewise.
+pub fn put_differs(out: &mut [u8], index: u32, count: u32) -> usize
+    ensures { λ r. ⌜ Begins (taken (differsOf index count) (now (out .entry))) (now (out .entry)) (now (out .exit)) r ⌝ }
+{
     if out.len() < 32 {
         return 0;
     }
-    put_refused_word(out);
-    let end = put_decimal(out, 8, number as u32);
-    put_byte(out, end, b'\n');
-    end + 1
+    put_word(out, b"differs ");
+    let first = put_decimal(out, 8, index);
+    put_byte(out, first, b' ');
+    let second = put_decimal(out, first + 1, count);
+    put_byte(out, second, b'\n');
+    second + 1
 }
 
 fn word(first: u8, second: u8, third: u8, fourth: u8) -> u32

@@ -1,31 +1,15 @@
 -- The class table's rule, the byte rule, and which classes are mailboxes.
--- A rule about all numbers below n is one test that antt computes, and one law that makes it the rule at each number.
 use mathlib.Core.Bool.{false}
-use mathlib.Core.List.{List, [], _∷_}
-use mathlib.Core.Path.{_≡_, refl, sym, ap, _∙_}
-use Prim.Native.Nat.{ℕ, zero, suc, _-_, _%_, _≤_, _<_}
-use native.Mathlib.Nat.{le-of-suc-le-suc}
+use mathlib.Core.List.{List}
+use mathlib.Core.Path.{_≡_, refl}
+use Prim.Native.Nat.{ℕ, _-_, _%_, _≤_, _<_}
 use native.Mathlib.Omega.{arith}
 use lib.Dec.{ltb}
 use lib.ListN.{getD}
 use borrow.Author.Tests.{lt-ltb, le-ltb}
 use Rattle.pmc330_model.specs.Map.{unmapped, mailbox, ifMailbox, wordAt, classOf}
+use Rattle.pmc330_model.proofs.Cases.{valuesBelow, same-below}
 use Rattle.pmc330.specs.Classes.{registerOf}
-
--- the values at 0 to n - 1
-abbrev pub valuesBelow : {A : Type 0} → (f : ℕ → A) → ℕ → List A
-valuesBelow f zero = []
-valuesBelow f (suc n) = f 0 ∷ valuesBelow (λ k. f (suc k)) n
-
-value-at : {A : Type 0} (f : ℕ → A) (d : A) (n k : ℕ) → k < n → getD (valuesBelow f n) k d ≡ f k
-value-at f d zero k h = absurd (omega arith)
-value-at f d (suc n) zero h = refl
-value-at f d (suc n) (suc k) h = value-at (λ i. f (suc i)) d n k (le-of-suc-le-suc h)
-
--- if antt computes both lists to the same, the functions agree at each number below n
-pub same-below : {A : Type 0} (f g : ℕ → A) (n : ℕ) → valuesBelow f n ≡ valuesBelow g n → (k : ℕ) → k < n → f k ≡ g k
-same-below {A} f g n same k h =
-    sym (value-at f (f 0) n k h) ∙ ap (λ (values : List A). getD values k (f 0)) same ∙ value-at g (f 0) n k h
 
 -- the test of a class table: its 64 entries, as registers, are the words of the map
 abbrev pub FollowsMap : (table : List ℕ) → Type 0

@@ -18,10 +18,10 @@ use Rattle.pmc330_model.specs.Questions.{isWidth, isAligned, isAllowed, hasUsed
 use Rattle.pmc330_model.specs.Board.{questionsOf}
 use Rattle.pmc330_model.specs.declared.Board.{Board}
 use Rattle.pmc330_model.specs.declared.Registers.{Registers}
+use Rattle.pmc330_model.proofs.Cases.{valuesBelow, same-below}
 use Rattle.pmc330_model.proofs.QuestionLaws.{first-met}
 use Rattle.pmc330.specs.Classes.{registerOf}
 use Rattle.pmc330.specs.Widths.{powerOf}
-use Rattle.pmc330.proofs.Classes.{valuesBelow, same-below}
 use Rattle.pmc330.proofs.WidthLaws.{width-is, power-is}
 
 pub width-least : (width : ℕ) → isWidth width ≡ true → 8 ≤ width

@@ -7,8 +7,10 @@ ghost use Rattle.analog.specs.Code.{codeOf};
 ghost use Rattle.analog.specs.Correction.{correctedAnswer};
 ghost use lib.ListN.{length};
 ghost use Rattle.trace.specs.Play.{playedResult, playedBuffer};
+ghost use Rattle.trace.specs.Replay.{replayed, replayResult};
 ghost use Rattle.window.specs.Window.{windowAnswer, windowOutput};
 use analog::Answer;
+use trace::Replayed;
 
 // An answer as one number, 256 × value + number.
 pub(crate) fn packed_answer(answer: Answer) -> u64
@@ -60,4 +62,16 @@ pub extern "C" fn pmc330_play(trace: &[u8], answers: &mut [u8]) -> u64
     ensures buffer { λ r. ⌜ now (answers .exit) ≡ playedBuffer (now (trace .entry)) (now (answers .entry)) ⌝ }
 {
     trace::play(trace, answers)
+}
+
+// A recording replayed on a new board: number + 2^8 × index + 2^32 × count.
+#[no_mangle]
+pub extern "C" fn pmc330_replay(trace: &[u8]) -> u64
+    ensures { λ r. ⌜ r ≡ replayResult (replayed (now (trace .entry))) ⌝ }
+{
+    match trace::replay(trace) {
+        Replayed::Refused(number) => number as u64,
+        Replayed::Agree(count) => 4_294_967_296 * (count as u64),
+        Replayed::Differs(index, count) => 256 * (index as u64) + 4_294_967_296 * (count as u64),
+    }
 }

@@ -1,10 +1,13 @@
 -- Small laws on tests.
 use mathlib.Core.Bool.{Bool, true, false, cond, not, _&&_, _||_, false≢true}
 use mathlib.Core.Logic.{_⊎_, inl, inr}
-use mathlib.Core.Path.{_≡_, refl, sym, _∙_}
-use Prim.Native.Nat.{ℕ, _<_, _≤_}
+use mathlib.Core.List.{List, [], _∷_}
+use mathlib.Core.Path.{_≡_, refl, sym, ap, _∙_}
+use Prim.Native.Nat.{ℕ, zero, suc, _<_, _≤_}
 use native.Mathlib.Decide.{decLe, ℕ-discrete}
-use native.Mathlib.Nat.{lt-of-not-le}
+use native.Mathlib.Nat.{lt-of-not-le, le-of-suc-le-suc}
+use native.Mathlib.Omega.{arith}
+use lib.ListN.{getD}
 
 pub lt-or-le : (a b : ℕ) → (a < b) ⊎ (b ≤ a)
 lt-or-le a b = go (decLe b a)
@@ -44,3 +47,20 @@ implied false b e h = absurd (false≢true h)
 pub either-way : {A : Type 0} (t : Bool) (x : A) → cond t x x ≡ x
 either-way true x = refl
 either-way false x = refl
+
+-- ---- a rule about all numbers below n: one test that antt computes, and one law that makes it the rule at each number
+
+-- the values at 0 to n - 1
+abbrev pub valuesBelow : {A : Type 0} → (f : ℕ → A) → ℕ → List A
+valuesBelow f zero = []
+valuesBelow f (suc n) = f 0 ∷ valuesBelow (λ k. f (suc k)) n
+
+value-at : {A : Type 0} (f : ℕ → A) (d : A) (n k : ℕ) → k < n → getD (valuesBelow f n) k d ≡ f k
+value-at f d zero k h = absurd (omega arith)
+value-at f d (suc n) zero h = refl
+value-at f d (suc n) (suc k) h = value-at (λ i. f (suc i)) d n k (le-of-suc-le-suc h)
+
+-- if antt computes both lists to the same, the functions agree at each number below n
+pub same-below : {A : Type 0} (f g : ℕ → A) (n : ℕ) → valuesBelow f n ≡ valuesBelow g n → (k : ℕ) → k < n → f k ≡ g k
+same-below {A} f g n same k h =
+    sym (value-at f (f 0) n k h) ∙ ap (λ (values : List A). getD values k (f 0)) same ∙ value-at g (f 0) n k h

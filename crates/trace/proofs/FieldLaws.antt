@@ -1,5 +1,5 @@
 -- The laws of fields: a trace's fields are its first field, then the fields after it.
-use mathlib.Core.Bool.{Bool, true, false, cond, _&&_}
+use mathlib.Core.Bool.{Bool, true, false, cond, not, _&&_}
 use mathlib.Core.List.{List, [], _∷_}
 use mathlib.Core.Logic.{⊎-elim}
 use mathlib.Core.Path.{_≡_, refl, sym, ap, ap₂, _∙_}
@@ -9,26 +9,28 @@ use native.Mathlib.Numerals.{add-one}
 use native.Mathlib.Omega.{arith}
 use lib.Dec.{eqb, ltb, leb}
 use lib.ListN.{length, getD, take, drop, length-drop}
-use lib.Seq.{getD-drop, drop-drop, drop-cons}
-use borrow.Author.Tests.{lt-ltb, le-ltb, le-leb, lt-leb, eq-eqb, ne-eqb, eqb-true, leb-true}
-use Rattle.analog.specs.Answers.{firstNo}
-use Rattle.pmc330_model.specs.Calls.{Call}
-use Rattle.pmc330_model.proofs.Cases.{lt-or-le, and-left, and-right}
-use Rattle.trace.specs.Grammar.{lengthIn, isCallIn, lengthOf, isCallTag, lowFirst, callOf}
-use Rattle.trace.specs.Fields.{tagOf, sizeOf, bodyOf, afterField, isWhole, sameBytes, Fields, damaged, whole, inFront, isCallField, fieldsIn, fieldsOf}
-use Rattle.trace.specs.Play.{callsIn, fieldsQuestion}
-use Rattle.trace.specs.Machine.{counted, checkedNumber, checkedCalls}
-use Rattle.trace.specs.declared.fields.Checked.the-variants.{Calls}
+use lib.Seq.{getD-drop, drop-drop, drop-cons, length-take-le}
+use borrow.Author.Tests.{le-ltb, le-leb, lt-leb, eq-eqb, ne-eqb, eqb-true, ltb-true, leb-true}
+use Rattle.pmc330_model.specs.Words.{toBit}
+use Rattle.pmc330_model.proofs.Cases.{lt-or-le, and-left, and-right, valuesBelow, same-below}
+use Rattle.trace.specs.Grammar.{Kind, Row, isCall, isAnswer, grammar, lengthIn, isKindIn, lengthOf, isCallTag, isAnswerTag, lowFirst}
+use Rattle.trace.specs.Fields.{Field, tagOf, sizeOf, bodyOf, firstField, afterField, isWhole, sameBytes, Fields, damaged, whole, inFront, isLaterTag, isLaterField, fieldsIn, fieldsOf, listed, callFields, callIn, callsAmong}
+use Rattle.trace.specs.Machine.{straysIn, straysAmong, walked}
+use Rattle.trace.specs.declared.fields.Checked.the-variants.{Refused, Calls}
 
 -- ---- the grammar's table
 
+no-both : (t : Bool) → (t && false) ≡ false
+no-both true = refl
+no-both false = refl
+
 -- what has no row, and a trigger and a reset, have no body
 pub length-none :
-    (tag : ℕ) → (tag ≡ 0 → ⊥) → (tag ≡ 1 → ⊥) → (tag ≡ 2 → ⊥) → (tag ≡ 3 → ⊥) → (tag ≡ 4 → ⊥) → (tag ≡ 7 → ⊥) → (tag ≡ 8 → ⊥)
+    (tag : ℕ) → (tag ≡ 0 → ⊥) → (tag ≡ 1 → ⊥) → (tag ≡ 2 → ⊥) → (tag ≡ 3 → ⊥) → (tag ≡ 4 → ⊥) → (tag ≡ 7 → ⊥) → (tag ≡ 8 → ⊥) → (tag ≡ 9 → ⊥)
     → lengthOf tag ≡ 0
 unfolding lengthOf lengthIn
-length-none tag n₀ n₁ n₂ n₃ n₄ n₇ n₈ =
-    rw (ne-eqb tag 0 n₀, ne-eqb tag 1 n₁, ne-eqb tag 2 n₂, ne-eqb tag 3 n₃, ne-eqb tag 4 n₄, ne-eqb tag 7 n₇, ne-eqb tag 8 n₈)
+length-none tag n₀ n₁ n₂ n₃ n₄ n₇ n₈ n₉ =
+    rw (ne-eqb tag 0 n₀, ne-eqb tag 1 n₁, ne-eqb tag 2 n₂, ne-eqb tag 3 n₃, ne-eqb tag 4 n₄, ne-eqb tag 7 n₇, ne-eqb tag 8 n₈, ne-eqb tag 9 n₉)
     (go (eqb tag 5) (eqb tag 6))
   where
     go : (trigger reset : Bool) → _≡_ {A = ℕ} (cond trigger 0 (cond reset 0 0)) 0
@@ -36,33 +38,90 @@ length-none tag n₀ n₁ n₂ n₃ n₄ n₇ n₈ =
     go false true = refl
     go false false = refl
 
-pub call-law : (tag : ℕ) → 0 < tag → tag < 9 → isCallTag tag ≡ true
-unfolding isCallTag isCallIn
-call-law zero some h = absurd (omega arith)
-call-law (suc zero) some h = refl
-call-law (suc (suc zero)) some h = refl
-call-law (suc (suc (suc zero))) some h = refl
-call-law (suc (suc (suc (suc zero)))) some h = refl
-call-law (suc (suc (suc (suc (suc zero))))) some h = refl
-call-law (suc (suc (suc (suc (suc (suc zero)))))) some h = refl
-call-law (suc (suc (suc (suc (suc (suc (suc zero))))))) some h = refl
-call-law (suc (suc (suc (suc (suc (suc (suc (suc zero)))))))) some h = refl
-call-law (suc (suc (suc (suc (suc (suc (suc (suc (suc n))))))))) some h = absurd (omega arith)
+-- a number of every row, its tag or its size, is below a bound
+abbrev rowsBelow : (of : Row → ℕ) → ℕ → List Row → Bool
+rowsBelow of n [] = true
+rowsBelow of n (r ∷ rows) = ltb (of r) n && rowsBelow of n rows
 
-module _ (tag : ℕ) (beyond : 9 ≤ tag) where
-  other : (n : ℕ) → n < 9 → eqb tag n ≡ false
-  other n h = ne-eqb tag n (λ e. omega arith)
+abbrev tagIn : Row → ℕ
+tagIn r = r .tag
 
-  pub call-beyond : isCallTag tag ≡ false
-  unfolding isCallTag isCallIn
-  call-beyond = rw (other 0 (omega arith), other 1 (omega arith), other 2 (omega arith), other 3 (omega arith), other 4 (omega arith), other 5 (omega arith), other 6 (omega arith), other 7 (omega arith), other 8 (omega arith))
+abbrev sizeIn : Row → ℕ
+sizeIn r = r .size
+
+-- a tag beyond them all is of no kind
+no-row : (isKind : Kind → Bool) (n : ℕ) (rows : List Row) → rowsBelow tagIn n rows ≡ true → (tag : ℕ) → n ≤ tag → isKindIn isKind rows tag ≡ false
+unfolding isKindIn
+no-row isKind n [] below tag beyond = refl
+no-row isKind n (r ∷ rows) below tag beyond =
+    let less = ltb-true (r .tag) n (and-left (ltb (r .tag) n) (rowsBelow tagIn n rows) below) in
+    rw (ne-eqb tag (r .tag) (λ e. omega arith)) (no-row isKind n rows (and-right (ltb (r .tag) n) (rowsBelow tagIn n rows) below) tag beyond)
+
+-- a test of tags is a rule of the table: computed for each tag up to the greatest, and false beyond
+by-table :
+    (test rule : ℕ → Bool) → valuesBelow test 10 ≡ valuesBelow rule 10 → ((tag : ℕ) → 10 ≤ tag → test tag ≡ false)
+    → ((tag : ℕ) → 10 ≤ tag → rule tag ≡ false) → (tag : ℕ) → test tag ≡ rule tag
+by-table test rule same far far′ tag =
+    ⊎-elim (λ (h : tag < 10). same-below test rule 10 same tag h) (λ (h : 10 ≤ tag). far tag h ∙ sym (far′ tag h)) (lt-or-le tag 10)
+
+call-beyond : (tag : ℕ) → 10 ≤ tag → isCallTag tag ≡ false
+unfolding isCallTag
+call-beyond = no-row isCall 10 grammar refl
+
+answer-beyond : (tag : ℕ) → 10 ≤ tag → isAnswerTag tag ≡ false
+unfolding isAnswerTag
+answer-beyond = no-row isAnswer 10 grammar refl
+
+pub answer-test : (tag : ℕ) → eqb tag 9 ≡ isAnswerTag tag
+unfolding isAnswerTag isKindIn
+answer-test = by-table (λ tag. eqb tag 9) isAnswerTag refl (λ tag h. ne-eqb tag 9 (λ e. omega arith)) answer-beyond
 
 pub call-test : (tag : ℕ) → (tag ≡ 0 → ⊥) → ltb tag 9 ≡ isCallTag tag
+unfolding isCallTag isKindIn
 call-test tag other =
-    ⊎-elim
-    (λ (h : tag < 9). lt-ltb tag 9 h ∙ sym (call-law tag (omega arith) h))
-    (λ (h : 9 ≤ tag). le-ltb tag 9 h ∙ sym (call-beyond tag h))
-    (lt-or-le tag 9)
+    sym (rw (ne-eqb tag 0 other))
+    ∙ by-table (λ t. not (eqb t 0) && ltb t 9) isCallTag refl (λ t h. rw (le-ltb t 9 (omega arith)) (no-both (not (eqb t 0)))) call-beyond tag
+
+-- the heading's tag
+pub heading-no-call : isCallTag 0 ≡ false
+unfolding isCallTag isKindIn
+heading-no-call = refl
+
+-- a tag that may stand after the heading is a call's, or else a recorded answer's
+pub answer-else : (tag : ℕ) → isLaterTag tag ≡ true → isCallTag tag ≡ false → isAnswerTag tag ≡ true
+answer-else tag later none = sym (rw none) ∙ later
+
+pub answer-no-call : (tag : ℕ) → isAnswerTag tag ≡ true → isCallTag tag ≡ false
+unfolding isCallTag isKindIn
+answer-no-call tag e = ap isCallTag (eqb-true tag 9 (answer-test tag ∙ e))
+
+pub call-no-answer : (tag : ℕ) → isCallTag tag ≡ true → isAnswerTag tag ≡ false
+call-no-answer tag made = go (isAnswerTag tag) refl
+  where
+    go : (t : Bool) → isAnswerTag tag ≡ t → t ≡ false
+    go true e = sym made ∙ answer-no-call tag e
+    go false e = refl
+
+-- no body is long
+size-below : (n : ℕ) (rows : List Row) → 0 < n → rowsBelow sizeIn n rows ≡ true → (tag : ℕ) → lengthIn rows tag < n
+unfolding lengthIn
+size-below n [] some below tag = some
+size-below n (r ∷ rows) some below tag =
+    go (eqb tag (r .tag)) (ltb-true (r .size) n (and-left (ltb (r .size) n) (rowsBelow sizeIn n rows) below))
+    (size-below n rows some (and-right (ltb (r .size) n) (rowsBelow sizeIn n rows) below) tag)
+  where
+    go : (t : Bool) → r .size < n → lengthIn rows tag < n → cond t (r .size) (lengthIn rows tag) < n
+    go true here later = here
+    go false here later = later
+
+pub length-small : (tag : ℕ) → lengthOf tag < 8
+unfolding lengthOf
+length-small = size-below 8 grammar (omega arith) refl
+
+-- a recorded answer has five bytes
+pub answer-length : (tag : ℕ) → isLaterTag tag ≡ true → isCallTag tag ≡ false → lengthOf tag ≡ 5
+unfolding lengthOf lengthIn
+answer-length tag later none = ap lengthOf (eqb-true tag 9 (answer-test tag ∙ answer-else tag later none))
 
 -- ---- numbers
 
@@ -84,14 +143,14 @@ module _ (a b : List ℕ) (i : ℕ) (in-a : i < length a) (in-b : i < length b) 
 
 -- ---- the fields of some bytes
 
-empty : (bytes : List ℕ) → length bytes ≡ 0 → (turns : ℕ) → fieldsIn (suc turns) bytes ≡ whole []
+pub empty : (bytes : List ℕ) → length bytes ≡ 0 → (turns : ℕ) → fieldsIn (suc turns) bytes ≡ whole []
 unfolding fieldsIn
 empty bytes e turns = rw (eq-eqb (length bytes) 0 e)
 
-abbrev step : List ℕ → Fields → Fields
-step bytes rest = cond (isCallField bytes) (inFront (callOf (tagOf bytes) (bodyOf bytes)) rest) damaged
+abbrev pub step : List ℕ → Fields → Fields
+step bytes rest = cond (isLaterField bytes) (inFront (firstField bytes) rest) damaged
 
-one-turn : (bytes : List ℕ) → 0 < length bytes → (turns : ℕ) → fieldsIn (suc turns) bytes ≡ step bytes (fieldsIn turns (afterField bytes))
+pub one-turn : (bytes : List ℕ) → 0 < length bytes → (turns : ℕ) → fieldsIn (suc turns) bytes ≡ step bytes (fieldsIn turns (afterField bytes))
 unfolding fieldsIn
 one-turn bytes some turns = rw (ne-eqb (length bytes) 0 (λ e. omega arith))
 
@@ -112,7 +171,7 @@ pub fields-end : (bytes : List ℕ) → length bytes ≡ 0 → fieldsOf bytes �
 unfolding fieldsOf
 fields-end bytes e = empty bytes e (length bytes)
 
-pub fields-step : (bytes : List ℕ) → 0 < length bytes → fieldsOf bytes ≡ cond (isCallField bytes) (inFront (callOf (tagOf bytes) (bodyOf bytes)) (fieldsOf (afterField bytes))) damaged
+pub fields-step : (bytes : List ℕ) → 0 < length bytes → fieldsOf bytes ≡ cond (isLaterField bytes) (inFront (firstField bytes) (fieldsOf (afterField bytes))) damaged
 unfolding fieldsOf
 fields-step bytes some =
     let less = length-drop (3 + sizeOf bytes) bytes in
@@ -132,7 +191,7 @@ pub tag-at : (trace : List ℕ) (at : ℕ) → tagOf (drop at trace) ≡ getD tr
 tag-at trace at = getD-drop at trace 0 0 ∙ ap (λ (n : ℕ). getD trace n 0) (add-zero at)
 
 -- what a whole field has
-whole-parts : (bytes : List ℕ) → isWhole bytes ≡ true → (3 ≤ length bytes) × (sizeOf bytes ≡ lengthOf (tagOf bytes)) × (3 + sizeOf bytes ≤ length bytes)
+pub whole-parts : (bytes : List ℕ) → isWhole bytes ≡ true → (3 ≤ length bytes) × (sizeOf bytes ≡ lengthOf (tagOf bytes)) × (3 + sizeOf bytes ≤ length bytes)
 unfolding isWhole
 whole-parts bytes field =
     let front = and-left (leb 3 (length bytes) && eqb (sizeOf bytes) (lengthOf (tagOf bytes))) (leb (3 + sizeOf bytes) (length bytes)) field in (
@@ -190,44 +249,141 @@ whole-at trace at size e field =
       after = drop-drop (3 + sizeOf bytes) at trace ∙ ap (λ (n : ℕ). drop n trace) next;
     }
 
--- ---- a turn of the check
+-- ---- the next field
 
--- the fields from an index on, where no field or a whole one stands there
-pub no-call : (trace : List ℕ) (at : ℕ) → at < length trace → isCallField (drop at trace) ≡ false → fieldsOf (drop at trace) ≡ damaged
-no-call trace at some e =
+-- the body of the field at an index, as the code hands it on
+abbrev pub bodyAt : (trace : List ℕ) (at size : ℕ) → List ℕ
+bodyAt trace at size = take (at + 3 + size - (at + 3)) (drop (at + 3) trace)
+
+pub body-at : (trace : List ℕ) (at size : ℕ) → size ≡ lengthOf (getD trace at 0) → isWhole (drop at trace) ≡ true → bodyAt trace at size ≡ bodyOf (drop at trace)
+body-at trace at size e field =
+    let same : at + 3 + size - (at + 3) ≡ size = omega arith in
+    ap (λ (n : ℕ). take n (drop (at + 3) trace)) same ∙ sym (whole-at trace at size e field .body)
+
+pub body-length : (trace : List ℕ) (at size : ℕ) → size ≡ lengthOf (getD trace at 0) → isWhole (drop at trace) ≡ true → length (bodyAt trace at size) ≡ lengthOf (getD trace at 0)
+body-length trace at size e field =
+    let same : at + 3 + size - (at + 3) ≡ size = omega arith in
+    length-take-le (at + 3 + size - (at + 3)) (drop (at + 3) trace) (omega (arith, length-drop (at + 3) trace, whole-at trace at size e field .ends)) ∙ same ∙ e
+
+-- the fields from an index on, where no later field or a whole one stands there
+pub no-field : (trace : List ℕ) (at : ℕ) → at < length trace → isLaterField (drop at trace) ≡ false → fieldsOf (drop at trace) ≡ damaged
+no-field trace at some e =
     fields-step (drop at trace) (omega (arith, length-drop at trace))
     ∙ rw e
 
-pub a-call :
-    (trace : List ℕ) (at size : ℕ) → at < length trace → size ≡ lengthOf (getD trace at 0) → isCallField (drop at trace) ≡ true
-    → fieldsOf (drop at trace) ≡ inFront (callOf (getD trace at 0) (take size (drop (at + 3) trace))) (fieldsOf (drop (at + 3 + size) trace))
-a-call trace at size some e field =
+pub a-field :
+    (trace : List ℕ) (at size : ℕ) → at < length trace → size ≡ lengthOf (getD trace at 0) → isLaterField (drop at trace) ≡ true
+    → fieldsOf (drop at trace) ≡ inFront (firstField (drop at trace)) (fieldsOf (drop (at + 3 + size) trace))
+a-field trace at size some e field =
     let f = whole-at trace at size e (and-left (isWhole (drop at trace)) _ field) in
     fields-step (drop at trace) (omega (arith, length-drop at trace))
-    ∙ rw field
-    (ap₂ inFront (ap₂ callOf (tag-at trace at) (f .body)) (ap fieldsOf (f .after)))
+    ∙ rw field (ap (λ (l : List ℕ). inFront (firstField (drop at trace)) (fieldsOf l)) (f .after))
 
-counted-front : (n : ℕ) (call : Call) (fields : Fields) → counted n (inFront call fields) ≡ counted (n + 1) fields
-counted-front n call damaged = refl
-counted-front n call (whole calls) = ap Calls (omega arith)
+-- what a walk over a checked trace meets
+pub record Next (trace : List ℕ) (at size : ℕ) (rest : List Field) : Type 0 where
+  pub later : List Field
+  pub same : rest ≡ firstField (drop at trace) ∷ later
+  pub following : fieldsOf (drop (at + 3 + size) trace) ≡ whole later
+  pub ends : at + 3 + size ≤ length trace
+  pub body : bodyAt trace at size ≡ bodyOf (drop at trace)
+  pub bodySize : length (bodyAt trace at size) ≡ lengthOf (getD trace at 0)
+  pub isLater : isLaterTag (getD trace at 0) ≡ true
 
--- a call is counted
-pub count-turn :
-    (trace : List ℕ) (at size n : ℕ) → at < length trace → size ≡ lengthOf (getD trace at 0) → isCallField (drop at trace) ≡ true
-    → counted n (fieldsOf (drop at trace)) ≡ counted (n + 1) (fieldsOf (drop (at + 3 + size) trace))
-count-turn trace at size n some e field =
-    ap (counted n) (a-call trace at size some e field)
-    ∙ counted-front n (callOf (getD trace at 0) (take size (drop (at + 3) trace))) (fieldsOf (drop (at + 3 + size) trace))
+pub record Front (field : Field) (rest : List Field) (fields : Fields) : Type 0 where
+  pub later : List Field
+  pub same : rest ≡ field ∷ later
+  pub following : fields ≡ whole later
 
--- the number and the value of the check
-pub number-counted : (fields : Fields) → checkedNumber (counted 0 fields) ≡ firstNo (fieldsQuestion fields ∷ [])
-unfolding firstNo
-number-counted damaged = refl
-number-counted (whole calls) = refl
+pub front : (field : Field) (rest : List Field) (fields : Fields) → inFront field fields ≡ whole rest → Front field rest fields
+front field rest damaged e = let z : _≡_ {A = ℕ} 0 1 = cc in absurd (omega arith)
+front field rest (whole fields) e = record { later = fields; same = sym (ap listed e); following = refl }
 
-pub calls-counted : (fields : Fields) → checkedCalls (counted 0 fields) ≡ length (callsIn fields)
-calls-counted damaged = refl
-calls-counted (whole calls) = omega arith
+is-field : (trace : List ℕ) (at : ℕ) (rest : List Field) → at < length trace → fieldsOf (drop at trace) ≡ whole rest → isLaterField (drop at trace) ≡ true
+is-field trace at rest some e = go (isLaterField (drop at trace)) refl
+  where
+    go : (t : Bool) → isLaterField (drop at trace) ≡ t → t ≡ true
+    go true found = refl
+    go false found =
+        let f : damaged ≡ whole rest = sym (no-field trace at some found) ∙ e in
+        let z : _≡_ {A = ℕ} 0 1 = cc in
+        absurd (omega arith)
+
+-- a field that a walk meets is whole
+pub whole-here : (trace : List ℕ) (at : ℕ) (rest : List Field) → at < length trace → fieldsOf (drop at trace) ≡ whole rest → isWhole (drop at trace) ≡ true
+whole-here trace at rest some fields = and-left (isWhole (drop at trace)) _ (is-field trace at rest some fields)
+
+pub next-field :
+    (trace : List ℕ) (at size : ℕ) (rest : List Field) → at < length trace → size ≡ lengthOf (getD trace at 0)
+    → fieldsOf (drop at trace) ≡ whole rest → Next trace at size rest
+next-field trace at size rest some e fields =
+    let field = is-field trace at rest some fields in
+    let here = and-left (isWhole (drop at trace)) _ field in
+    let split = front (firstField (drop at trace)) rest (fieldsOf (drop (at + 3 + size) trace)) (sym (a-field trace at size some e field) ∙ fields) in
+    record {
+      later = split .later;
+      same = split .same;
+      following = split .following;
+      ends = whole-at trace at size e here .ends;
+      body = body-at trace at size e here;
+      bodySize = body-length trace at size e here;
+      isLater = sym (ap isLaterTag (tag-at trace at)) ∙ and-right (isWhole (drop at trace)) _ field;
+    }
+
+-- the calls of a field and those after it
+pub call-front : (field : Field) (later : List Field) → isCallTag (field .tag) ≡ true → callsAmong (field ∷ later) ≡ callIn field ∷ callsAmong later
+unfolding callFields
+call-front field later e = rw e
+
+pub other-front : (field : Field) (later : List Field) → isCallTag (field .tag) ≡ false → callsAmong (field ∷ later) ≡ callsAmong later
+unfolding callFields
+other-front field later e = rw e
+
+-- ---- a turn of the check
+
+pub calls-counted : (field : Field) (later : List Field) → length (callsAmong (field ∷ later)) ≡ toBit (isCallTag (field .tag)) + length (callsAmong later)
+calls-counted field later = go (isCallTag (field .tag)) refl
+  where
+    go : (t : Bool) → isCallTag (field .tag) ≡ t → length (callsAmong (field ∷ later)) ≡ toBit t + length (callsAmong later)
+    go true e = ap length (call-front field later e) ∙ omega arith
+    go false e = ap length (other-front field later e) ∙ omega arith
+
+walked-front :
+    (calls strays before : ℕ) (field : Field) (fields : Fields)
+    → walked calls strays before (inFront field fields)
+    ≡ walked (calls + toBit (isCallTag (field .tag))) (strays + straysIn before (field .tag)) (field .tag) fields
+unfolding straysAmong
+walked-front calls strays before field damaged = refl
+walked-front calls strays before field (whole fields) =
+    let found : strays + (straysIn before (field .tag) + straysAmong (field .tag) fields) ≡ strays + straysIn before (field .tag) + straysAmong (field .tag) fields = omega arith in
+    let made : calls + length (callsAmong (field ∷ fields)) ≡ calls + toBit (isCallTag (field .tag)) + length (callsAmong fields) = omega (arith, calls-counted field fields) in
+    ap₂ (λ (n m : ℕ). cond (eqb n 0) (Calls m) (Refused 26)) found made
+
+pub walk-turn :
+    (trace : List ℕ) (at size calls strays before : ℕ) → at < length trace → size ≡ lengthOf (getD trace at 0) → isLaterField (drop at trace) ≡ true
+    → walked calls strays before (fieldsOf (drop at trace))
+    ≡ walked (calls + toBit (isCallTag (getD trace at 0))) (strays + straysIn before (getD trace at 0)) (getD trace at 0) (fieldsOf (drop (at + 3 + size) trace))
+walk-turn trace at size calls strays before some e field =
+    ap (walked calls strays before) (a-field trace at size some e field)
+    ∙ walked-front calls strays before (firstField (drop at trace)) (fieldsOf (drop (at + 3 + size) trace))
+    ∙ ap (λ (tag : ℕ). walked (calls + toBit (isCallTag tag)) (strays + straysIn before tag) tag (fieldsOf (drop (at + 3 + size) trace))) (tag-at trace at)
+
+pub walk-end : (bytes : List ℕ) (calls strays before : ℕ) → length bytes ≡ 0 → walked calls strays before (fieldsOf bytes) ≡ cond (eqb strays 0) (Calls calls) (Refused 26)
+unfolding straysAmong callFields
+walk-end bytes calls strays before none =
+    let all : strays + 0 ≡ strays = omega arith in
+    let same : calls + 0 ≡ calls = omega arith in
+    ap (walked calls strays before) (fields-end bytes none) ∙ ap₂ (λ (n m : ℕ). cond (eqb n 0) (Calls m) (Refused 26)) all same
+
+-- ---- how many calls there can be
+
+bit-small : (t : Bool) → toBit t ≤ 1
+bit-small true = omega arith
+bit-small false = omega arith
+
+pub calls-few : (fields : List Field) → length (callsAmong fields) ≤ length fields
+unfolding callFields
+calls-few [] = omega arith
+calls-few (field ∷ fields) = omega (arith, calls-counted field fields, calls-few fields, bit-small (isCallTag (field .tag)))
 
 -- the heading has eight bytes
 pub heading-long : (trace : List ℕ) → isWhole trace ≡ true → tagOf trace ≡ 0 → 8 ≤ length trace

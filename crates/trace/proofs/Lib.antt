@@ -1,4 +1,11 @@
 pub mod FieldLaws
+pub mod FieldBytes
+pub mod CheckLaws
 pub mod CallLaws
 pub mod PlayLaws
+pub mod ReplayLaws
+pub mod RunLaws
 pub mod Theorems
+pub mod PassedOver
+pub mod RecordedLaws
+pub mod Replays

@@ -7,41 +7,19 @@ use native.Mathlib.Omega.{arith}
 use lib.Dec.{eqb, leb}
 use lib.ListN.{length, getD, take, drop, length-append, length-drop, drop-of-length-le, take-append-drop}
 use lib.Seq.{take-all, take-at, drop-at, length-take-le, drop-drop}
-use borrow.Author.Tests.{le-leb, lt-leb, ne-eqb, leb-true, eqb-true}
+use borrow.Author.Tests.{le-leb, lt-leb, ne-eqb}
 use Rattle.analog.specs.Answers.{firstNo}
 use Rattle.analog.specs.declared.Answer.{Answer}
 use Rattle.pmc330_model.specs.Calls.{Call}
 use Rattle.pmc330_model.specs.Board.{boardCall, newBoard, newCall, answersFrom, answersOf}
 use Rattle.pmc330_model.specs.declared.Board.{Board}
 use Rattle.pmc330_model.specs.declared.Reply.{Reply}
-use Rattle.pmc330_model.proofs.Cases.{and-left, and-right}
-use Rattle.trace.specs.Grammar.{lengthOf, callOf}
-use Rattle.trace.specs.Fields.{isWhole, isHeading, isCallField, rangeOf, tagOf, sameBytes, fixedBytes, Fields, damaged, whole, inFront, fieldsOf, laterFields}
-use Rattle.trace.specs.Play.{isUndamaged, fieldsQuestion, callsIn, callsOf, traceNumber, answerBytes, bytesOf, inBuffer, callsAnswered, playedResult, playedBuffer}
-use Rattle.trace.specs.Machine.{Playable}
-use Rattle.trace.proofs.FieldLaws.{whole-at, no-call, a-call, fields-end, heading-long}
-
--- ---- the next call
-
--- fields that begin with a call
-record Front (call : Call) (rest : List Call) (fields : Fields) : Type 0 where
-  later : List Call
-  fieldsAfter : fields ≡ whole later
-  same : rest ≡ call ∷ later
-
-front : (call : Call) (rest : List Call) (fields : Fields) → inFront call fields ≡ whole rest → Front call rest fields
-front call rest damaged e = let z : _≡_ {A = ℕ} 0 1 = cc in absurd (omega arith)
-front call rest (whole calls) e = record { later = calls; fieldsAfter = refl; same = sym (ap callsIn e) }
-
-is-field : (trace : List ℕ) (at : ℕ) (rest : List Call) → at < length trace → fieldsOf (drop at trace) ≡ whole rest → isCallField (drop at trace) ≡ true
-is-field trace at rest some e = go (isCallField (drop at trace)) refl
-  where
-    go : (t : Bool) → isCallField (drop at trace) ≡ t → t ≡ true
-    go true found = refl
-    go false found =
-        let f : damaged ≡ whole rest = sym (no-call trace at some found) ∙ e in
-        let z : _≡_ {A = ℕ} 0 1 = cc in
-        absurd (omega arith)
+use Rattle.trace.specs.Grammar.{lengthOf, isCallTag}
+use Rattle.trace.specs.Fields.{Field, tagOf, firstField, isHeading, rangeOf, whole, fieldsOf, laterFields, isUndamaged, listed, fieldsAfter, callFields, callIn, callsAmong, callsOf}
+use Rattle.trace.specs.Play.{answersFollow, fieldQuestions, traceNumber, answerBytes, bytesOf, inBuffer, callsAnswered, playedResult, playedBuffer}
+use Rattle.trace.specs.Machine.{Walkable}
+use Rattle.trace.proofs.FieldLaws.{tag-at, Next, next-field, call-front, other-front, fields-end}
+use Rattle.trace.proofs.CheckLaws.{heading-parts}
 
 -- ---- the answers in a buffer
 
@@ -80,38 +58,35 @@ module _ (xs five : List ℕ) (done : ℕ) (size : length five ≡ 5) (room : do
 -- where the player stands: what is written, with what the calls that are left will write, is what the whole trace writes
 pub record Playing (trace buffer : List ℕ) (start : Board) (answers : List ℕ) (board : Board) (at done : ℕ) : Type 0 where
   pub within : at ≤ length trace
-  pub rest : List Call
+  pub rest : List Field
   pub fields : fieldsOf (drop at trace) ≡ whole rest
-  pub room : done + 5 * length rest ≤ length answers
+  pub room : done + 5 * length (callsAmong rest) ≤ length answers
   pub same : length answers ≡ length buffer
-  pub written : take done answers ++ inBuffer (answersFrom board rest) (drop done answers) ≡ inBuffer (answersFrom start (callsOf trace)) buffer
+  pub written : take done answers ++ inBuffer (answersFrom board (callsAmong rest)) (drop done answers) ≡ inBuffer (answersFrom start (callsOf trace)) buffer
 
-pub opening : (trace buffer : List ℕ) (start : Board) → Playable trace (length buffer) → Playing trace buffer start buffer start 8 0
-opening trace buffer start p =
+pub opening :
+    (trace buffer : List ℕ) (start : Board) → Walkable trace → 5 * length (callsOf trace) ≤ length buffer
+    → Playing trace buffer start buffer start 8 0
+opening trace buffer start w fits =
     record {
-      within = p .long;
-      rest = callsOf trace;
-      fields = p .undamaged;
-      room = omega (arith, p .fits);
+      within = w .long;
+      rest = fieldsAfter trace;
+      fields = w .undamaged;
+      room = omega (arith, fits);
       same = refl;
       written = refl;
     }
 
--- the body of the field at an index, and what is left of the buffer, as the code hands them on
-abbrev bodyAt : (trace : List ℕ) (at size : ℕ) → List ℕ
-bodyAt trace at size = take (at + 3 + size - (at + 3)) (drop (at + 3) trace)
-
-abbrev restFrom : (answers : List ℕ) (done : ℕ) → List ℕ
+-- what is left of the buffer, as the code hands it on
+abbrev pub restFrom : (answers : List ℕ) (done : ℕ) → List ℕ
 restFrom answers done = take (length answers - done) (drop done answers)
 
--- one turn of the loop, by what its calls give
+-- one turn of the loop at a call, by what its calls give
 pub record Turn (trace buffer : List ℕ) (start : Board) (answers : List ℕ) (board : Board) (at done size : ℕ) : Type 0 where
-  pub ends : at + 3 + size ≤ length trace
   pub room : done + 5 ≤ length answers
-  pub body : length (bodyAt trace at size) ≡ lengthOf (getD trace at 0)
   pub left : 5 ≤ length (restFrom answers done)
   pub next :
-      (reply : Reply) (ys : List ℕ) → reply ≡ boardCall board (callOf (getD trace at 0) (bodyAt trace at size))
+      (reply : Reply) (ys : List ℕ) → reply ≡ boardCall board (callIn (firstField (drop at trace)))
       → ys ≡ answerBytes (reply .answer) ++ drop 5 (restFrom answers done)
       → Playing trace buffer start (take done answers ++ (ys ++ drop (length answers - done) (drop done answers))) (reply .board) (at + 3 + size) (done + 5)
 
@@ -120,116 +95,119 @@ module _
     (p : Playing trace buffer start answers board at done) (some : at < length trace)
     (size : ℕ) (e : size ≡ lengthOf (getD trace at 0))
   where
-    abbrev call : Call
-    call = callOf (getD trace at 0) (bodyAt trace at size)
+    pub field-met : Next trace at size (p .rest)
+    field-met = next-field trace at size (p .rest) some e (p .fields)
 
-    a-field : isCallField (drop at trace) ≡ true
-    a-field = is-field trace at (p .rest) some (p .fields)
+    -- a recorded answer is passed over
+    pub passes : isCallTag (getD trace at 0) ≡ false → Playing trace buffer start answers board (at + 3 + size) done
+    passes other =
+        let n = field-met in
+        let calls : callsAmong (p .rest) ≡ callsAmong (n .later) = ap callsAmong (n .same) ∙ other-front (firstField (drop at trace)) (n .later) (ap isCallTag (tag-at trace at) ∙ other) in
+        record {
+          within = n .ends;
+          rest = n .later;
+          fields = n .following;
+          room = omega (arith, p .room, ap length calls);
+          same = p .same;
+          written = ap (λ (made : List Call). take done answers ++ inBuffer (answersFrom board made) (drop done answers)) (sym calls) ∙ p .written;
+        }
 
-    turn-ends : at + 3 + size ≤ length trace
-    turn-ends = whole-at trace at size e (and-left (isWhole (drop at trace)) _ a-field) .ends
+    module _ (made : isCallTag (getD trace at 0) ≡ true) where
+      abbrev later : List Call
+      later = callsAmong (field-met .later)
 
-    body-size : at + 3 + size - (at + 3) ≡ size
-    body-size = omega arith
+      calls : callsAmong (p .rest) ≡ callIn (firstField (drop at trace)) ∷ later
+      calls = ap callsAmong (field-met .same) ∙ call-front (firstField (drop at trace)) (field-met .later) (ap isCallTag (tag-at trace at) ∙ made)
 
-    next : Front call (p .rest) (fieldsOf (drop (at + 3 + size) trace))
-    next =
-        front call (p .rest) (fieldsOf (drop (at + 3 + size) trace))
-        (ap (λ (n : ℕ). inFront (callOf (getD trace at 0) (take n (drop (at + 3) trace))) (fieldsOf (drop (at + 3 + size) trace))) body-size
-        ∙ sym (a-call trace at size some e a-field)
-        ∙ p .fields)
+      turn-room : done + 5 ≤ length answers
+      turn-room = omega (arith, p .room, ap length calls)
 
-    turn-room : done + 5 ≤ length answers
-    turn-room = omega (arith, p .room, ap length (next .same))
+      tail-is : restFrom answers done ≡ drop done answers
+      tail-is = take-all (length answers - done) (drop done answers) (omega (arith, length-drop done answers))
 
-    body-length : length (bodyAt trace at size) ≡ lengthOf (getD trace at 0)
-    body-length =
-        length-take-le (at + 3 + size - (at + 3)) (drop (at + 3) trace) (omega (arith, length-drop (at + 3) trace, turn-ends))
-        ∙ body-size
-        ∙ e
+      tail-room : 5 ≤ length (restFrom answers done)
+      tail-room = rw (tail-is) (omega (arith, length-drop done answers, turn-room))
 
-    tail-is : restFrom answers done ≡ drop done answers
-    tail-is = take-all (length answers - done) (drop done answers) (omega (arith, length-drop done answers))
+      goes-on :
+          (reply : Reply) (ys : List ℕ) → reply ≡ boardCall board (callIn (firstField (drop at trace))) → ys ≡ answerBytes (reply .answer) ++ drop 5 (restFrom answers done)
+          → Playing trace buffer start (take done answers ++ (ys ++ drop (length answers - done) (drop done answers))) (reply .board) (at + 3 + size) (done + 5)
+      unfolding answersFrom
+      goes-on reply ys r y =
+          subst (λ (l : List ℕ). Playing trace buffer start l (reply .board) (at + 3 + size) (done + 5)) (sym back)
+          (record {
+            within = field-met .ends;
+            rest = field-met .later;
+            fields = field-met .following;
+            room = omega (arith, p .room, ap length calls, after-length answers five done refl turn-room);
+            same = after-length answers five done refl turn-room ∙ p .same;
+            written =
+                ap₂ (λ (l m : List ℕ). l ++ inBuffer (answersFrom (reply .board) later) m) (after-take answers five done refl turn-room)
+                (after-drop answers five done refl turn-room)
+                ∙ append-assoc (take done answers) five (inBuffer (answersFrom (reply .board) later) (drop 5 (drop done answers)))
+                ∙ ap (λ (l : List ℕ). take done answers ++ l)
+                (sym (in-buffer-step (reply .answer) (answersFrom (reply .board) later) (drop done answers))
+                ∙ ap (λ (s : Reply). inBuffer (s .answer ∷ answersFrom (s .board) later) (drop done answers)) r
+                ∙ ap (λ (made : List Call). inBuffer (answersFrom board made) (drop done answers)) (sym calls))
+                ∙ p .written;
+          })
+        where
+          five : List ℕ
+          five = answerBytes (reply .answer)
 
-    tail-room : 5 ≤ length (restFrom answers done)
-    tail-room = rw (tail-is) (omega (arith, length-drop done answers, turn-room))
+          back : take done answers ++ (ys ++ drop (length answers - done) (drop done answers)) ≡ after answers five done refl turn-room
+          back =
+              ap₂ (λ (l m : List ℕ). take done answers ++ (l ++ m)) (y ∙ ap (λ (l : List ℕ). five ++ drop 5 l) tail-is)
+              (drop-of-length-le (drop done answers) {i = length answers - done} (omega (arith, length-drop done answers)))
+              ∙ ap (λ (l : List ℕ). take done answers ++ l) (append-nil (five ++ drop 5 (drop done answers)))
+              ∙ sym (append-assoc (take done answers) five (drop 5 (drop done answers)))
 
-    goes-on :
-        (reply : Reply) (ys : List ℕ) → reply ≡ boardCall board call → ys ≡ answerBytes (reply .answer) ++ drop 5 (restFrom answers done)
-        → Playing trace buffer start (take done answers ++ (ys ++ drop (length answers - done) (drop done answers))) (reply .board) (at + 3 + size) (done + 5)
-    unfolding answersFrom
-    goes-on reply ys r y =
-        subst (λ (l : List ℕ). Playing trace buffer start l (reply .board) (at + 3 + size) (done + 5)) (sym back)
-        (record {
-          within = turn-ends;
-          rest = next .later;
-          fields = next .fieldsAfter;
-          room = omega (arith, p .room, ap length (next .same), after-length answers five done refl turn-room);
-          same = after-length answers five done refl turn-room ∙ p .same;
-          written =
-              ap₂ (λ (l m : List ℕ). l ++ inBuffer (answersFrom (reply .board) (next .later)) m) (after-take answers five done refl turn-room)
-              (after-drop answers five done refl turn-room)
-              ∙ append-assoc (take done answers) five (inBuffer (answersFrom (reply .board) (next .later)) (drop 5 (drop done answers)))
-              ∙ ap (λ (l : List ℕ). take done answers ++ l)
-              (sym (in-buffer-step (reply .answer) (answersFrom (reply .board) (next .later)) (drop done answers))
-              ∙ ap (λ (s : Reply). inBuffer (s .answer ∷ answersFrom (s .board) (next .later)) (drop done answers)) r
-              ∙ ap (λ (calls : List Call). inBuffer (answersFrom board calls) (drop done answers)) (sym (next .same)))
-              ∙ p .written;
-        })
-      where
-        five : List ℕ
-        five = answerBytes (reply .answer)
-
-        back : take done answers ++ (ys ++ drop (length answers - done) (drop done answers)) ≡ after answers five done refl turn-room
-        back =
-            ap₂ (λ (l m : List ℕ). take done answers ++ (l ++ m)) (y ∙ ap (λ (l : List ℕ). five ++ drop 5 l) tail-is)
-            (drop-of-length-le (drop done answers) {i = length answers - done} (omega (arith, length-drop done answers)))
-            ∙ ap (λ (l : List ℕ). take done answers ++ l) (append-nil (five ++ drop 5 (drop done answers)))
-            ∙ sym (append-assoc (take done answers) five (drop 5 (drop done answers)))
-
-    pub turn : Turn trace buffer start answers board at done size
-    turn = record { ends = turn-ends; room = turn-room; body = body-length; left = tail-room; next = goes-on }
+      pub turn : Turn trace buffer start answers board at done size
+      turn = record { room = turn-room; left = tail-room; next = goes-on }
 
 -- at the end
 pub over :
     (trace buffer : List ℕ) (start : Board) (answers : List ℕ) (board : Board) (at done : ℕ)
     → Playing trace buffer start answers board at done → length trace ≤ at
     → answers ≡ inBuffer (answersFrom start (callsOf trace)) buffer
-unfolding answersFrom inBuffer bytesOf
+unfolding answersFrom inBuffer bytesOf callFields
 over trace buffer start answers board at done p end =
     sym (take-append-drop done answers)
-    ∙ ap (λ (calls : List Call). take done answers ++ inBuffer (answersFrom board calls) (drop done answers)) none
+    ∙ ap (λ (fields : List Field). take done answers ++ inBuffer (answersFrom board (callsAmong fields)) (drop done answers)) none
     ∙ p .written
   where
     none : [] ≡ p .rest
-    none =
-        ap callsIn (sym (fields-end (drop at trace) (omega (arith, length-drop at trace))) ∙ p .fields)
+    none = ap listed (sym (fields-end (drop at trace) (omega (arith, length-drop at trace))) ∙ p .fields)
 
 -- ---- the number of a trace
 
+-- question 20 is asked after the others
+asked-last :
+    (a b d room : Bool)
+    → _≡_ {A = ℕ} (cond a (cond b (cond d (cond room 0 20) 26) 19) 18)
+    (cond (eqb (cond a (cond b (cond d 0 26) 19) 18) 0) (cond room 0 20) (cond a (cond b (cond d 0 26) 19) 18))
+asked-last true true true room = refl
+asked-last true true false room = refl
+asked-last true false d room = refl
+asked-last false b d room = refl
+
 module _ (trace : List ℕ) (room : ℕ) where
-  pub number-long : 16_777_216 < length trace → traceNumber trace room ≡ 18
+  pub number-is :
+      traceNumber trace room
+      ≡ cond (eqb (firstNo (fieldQuestions trace)) 0) (cond (leb (5 * length (callsOf trace)) room) 0 20) (firstNo (fieldQuestions trace))
   unfolding traceNumber firstNo
-  number-long long = rw (lt-leb (length trace) 16_777_216 long)
+  number-is =
+      asked-last (leb (length trace) 16_777_216 && isHeading trace) (isUndamaged (laterFields trace)) (answersFollow (tagOf trace) (fieldsAfter trace))
+      (leb (5 * length (callsOf trace)) room)
 
-  module _ (short : length trace ≤ 16_777_216) where
-    pub number-18 : isHeading trace ≡ false → traceNumber trace room ≡ 18
-    unfolding traceNumber firstNo
-    number-18 other = rw (le-leb (length trace) 16_777_216 short, other)
+  pub number-refused : (n : ℕ) → firstNo (fieldQuestions trace) ≡ n → (n ≡ 0 → ⊥) → traceNumber trace room ≡ n
+  number-refused n e some = number-is ∙ rw (e, ne-eqb n 0 some)
 
-    module _ (heading : isHeading trace ≡ true) where
-      pub number-19 : laterFields trace ≡ damaged → traceNumber trace room ≡ 19
-      unfolding traceNumber firstNo
-      number-19 e = rw (le-leb (length trace) 16_777_216 short, heading, e)
+  module _ (none : firstNo (fieldQuestions trace) ≡ 0) where
+    pub number-20 : room < 5 * length (callsOf trace) → traceNumber trace room ≡ 20
+    number-20 less = number-is ∙ rw (none, lt-leb (5 * length (callsOf trace)) room less)
 
-      module _ (undamaged : laterFields trace ≡ whole (callsOf trace)) where
-        pub number-20 : room < 5 * length (callsOf trace) → traceNumber trace room ≡ 20
-        unfolding traceNumber firstNo
-        number-20 less = rw (le-leb (length trace) 16_777_216 short, heading, ap isUndamaged undamaged, lt-leb (5 * length (callsOf trace)) room less)
-
-        pub number-0 : 5 * length (callsOf trace) ≤ room → traceNumber trace room ≡ 0
-        unfolding traceNumber firstNo
-        number-0 enough = rw (le-leb (length trace) 16_777_216 short, heading, ap isUndamaged undamaged, le-leb (5 * length (callsOf trace)) room enough)
+    pub number-0 : 5 * length (callsOf trace) ≤ room → traceNumber trace room ≡ 0
+    number-0 enough = number-is ∙ rw (none, le-leb (5 * length (callsOf trace)) room enough)
 
 -- ---- what the player gives back
 
@@ -256,30 +234,10 @@ accepted trace buffer e =
       bytes = rw e;
     }
 
--- ---- the check and the heading
-
-pub found-damaged : (fields : Fields) → 19 ≡ firstNo (fieldsQuestion fields ∷ []) → fields ≡ damaged
-unfolding firstNo
-found-damaged damaged e = refl
-found-damaged (whole calls) e = absurd (omega arith)
-
-pub found-whole : (fields : Fields) → 0 ≡ firstNo (fieldsQuestion fields ∷ []) → fields ≡ whole (callsIn fields)
-unfolding firstNo
-found-whole damaged e = absurd (omega arith)
-found-whole (whole calls) e = refl
-
-pub heading-range : (trace : List ℕ) → isHeading trace ≡ true → rangeOf trace ≤ 3
-unfolding isHeading
-heading-range trace e = leb-true (rangeOf trace) 3 (and-right (isWhole trace && eqb (tagOf trace) 0x00 && sameBytes (take 4 (drop 3 trace)) fixedBytes) _ e)
-
-pub heading-length : (trace : List ℕ) → isHeading trace ≡ true → 8 ≤ length trace
-unfolding isHeading
-heading-length trace e =
-    let front = and-left (isWhole trace && eqb (tagOf trace) 0x00) (sameBytes (take 4 (drop 3 trace)) fixedBytes) (and-left _ (leb (rangeOf trace) 3) e) in
-    heading-long trace (and-left (isWhole trace) (eqb (tagOf trace) 0x00) front) (eqb-true (tagOf trace) 0x00 (and-right (isWhole trace) (eqb (tagOf trace) 0x00) front))
+-- ---- the board
 
 -- the board that a trace's calls begin on
 pub opened-board : (trace : List ℕ) → isHeading trace ≡ true → (range : ℕ) → range ≡ rangeOf trace → newCall range .board ≡ newBoard (rangeOf trace)
 opened-board trace heading range same =
     ap (λ (n : ℕ). newBoard (cond (leb n 3) n 0)) same
-    ∙ ap (λ (t : Bool). newBoard (cond t (rangeOf trace) 0)) (le-leb (rangeOf trace) 3 (heading-range trace heading))
+    ∙ ap (λ (t : Bool). newBoard (cond t (rangeOf trace) 0)) (le-leb (rangeOf trace) 3 (heading-parts trace heading .range))

@@ -12,11 +12,12 @@ use Rattle.analog.specs.declared.Answer.{Answer}
 use Rattle.analog.proofs.AnswerLaws.{none-first, some-first}
 use Rattle.pmc330_model.proofs.Cases.{and-left, and-right}
 use Rattle.pmc330_model.proofs.Theorems.{answersAgree}
-use Rattle.trace.specs.Fields.{isHeading, rangeOf, fieldsOf}
-use Rattle.trace.specs.Play.{traceQuestions, traceNumber, callsOf, callsAnswered, playedBuffer, inBuffer}
+use Rattle.trace.specs.Fields.{isHeading, rangeOf, fieldsOf, callsOf}
+use Rattle.trace.specs.Play.{traceQuestions, traceNumber, callsAnswered, playedBuffer, inBuffer}
 use Rattle.trace.specs.Sentences.{EveryRefusedTrace, EveryAcceptedTrace, EveryWalk}
 use Rattle.trace.proofs.FieldLaws.{enough, fields-end, fields-step}
-use Rattle.trace.proofs.PlayLaws.{accepted, heading-range}
+use Rattle.trace.proofs.CheckLaws.{heading-parts}
+use Rattle.trace.proofs.PlayLaws.{accepted}
 
 pub tracesRefused : EveryRefusedTrace
 unfolding traceNumber callsAnswered playedBuffer
@@ -28,7 +29,7 @@ tracesRefused trace buffer unmet =
       unchanged = rw refused;
     }
 
--- question 18 is the first of the three
+-- question 18 is the first
 accepted-heading : (trace : List ℕ) (room : ℕ) → allMet (traceQuestions trace room) ≡ true → isHeading trace ≡ true
 unfolding allMet
 accepted-heading trace room met = and-right (leb (length trace) 16_777_216) (isHeading trace) (and-left _ _ met)
@@ -38,7 +39,7 @@ unfolding traceNumber
 tracesAccepted trace buffer met =
     let none = none-first (traceQuestions trace (length buffer)) met in
     let played = accepted trace buffer none in
-    let valid = heading-range trace (accepted-heading trace (length buffer) met) in
+    let valid = heading-parts trace (accepted-heading trace (length buffer) met) .range in
     record {
       result = sym (played .number);
       answers =

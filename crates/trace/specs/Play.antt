@@ -1,39 +1,34 @@
 -- Document 01, "Traces": what the player answers, and what it leaves in the answer buffer.
 use Prim.Native.Nat.{ℕ, _+_, _*_, _/_, _%_}
-use mathlib.Core.Bool.{Bool, true, false, cond, _&&_}
+use mathlib.Core.Bool.{Bool, true, cond, _&&_}
 use mathlib.Core.List.{List, [], _∷_, _++_}
 use lib.Dec.{eqb, leb}
 use lib.ListN.{length, drop}
 use Rattle.analog.specs.Answers.{Question, question, firstNo, numberOf, valueOf}
 use Rattle.analog.specs.declared.Answer.{Answer}
-use Rattle.pmc330_model.specs.Calls.{Call}
 use Rattle.pmc330_model.specs.Board.{answersOf}
-use Rattle.trace.specs.Fields.{Fields, damaged, whole, isHeading, rangeOf, laterFields}
+use Rattle.trace.specs.Grammar.{isCallTag, isAnswerTag}
+use Rattle.trace.specs.Fields.{Field, tagOf, isHeading, rangeOf, laterFields, isUndamaged, fieldsAfter, callsOf}
 
-abbrev pub isUndamaged : Fields → Bool
-isUndamaged damaged = false
-isUndamaged (whole calls) = true
-
-abbrev pub callsIn : Fields → List Call
-callsIn damaged = []
-callsIn (whole calls) = calls
-
--- the calls of a trace, in order
-abbrev pub callsOf : (trace : List ℕ) → List Call
-callsOf trace = callsIn (laterFields trace)
-
--- 19. "Is every later field whole, with a call's tag and its length?"
-abbrev pub fieldsQuestion : Fields → Question
-fieldsQuestion fields = question 19 (isUndamaged fields)
+-- no recorded answer among fields is one "whose previous field isn't a call"; the tag of the field before them is given
+unfoldable pub answersFollow : (before : ℕ) → List Field → Bool
+answersFollow before [] = true
+answersFollow before (field ∷ fields) =
+    cond (isAnswerTag (field .tag)) (isCallTag before) true && answersFollow (field .tag) fields
 
 -- 18. "Has the trace at most 16,777,216 bytes, and is its first field that heading, with range 0 to 3?"
+-- 19. "Is every later field whole, with a call's tag and its length?" 02, A6: "19 admits 09H"
+-- 26. 02, A6: "a 09H field whose previous field isn't a call, after 19"
+abbrev pub fieldQuestions : (trace : List ℕ) → List Question
+fieldQuestions trace =
+    question 18 (leb (length trace) 16_777_216 && isHeading trace)
+    ∷ question 19 (isUndamaged (laterFields trace))
+    ∷ question 26 (answersFollow (tagOf trace) (fieldsAfter trace))
+    ∷ []
+
 -- 20. "Has the answer buffer at least 5 bytes per call?"
 abbrev pub traceQuestions : (trace : List ℕ) (room : ℕ) → List Question
-traceQuestions trace room =
-    question 18 (leb (length trace) 16_777_216 && isHeading trace)
-    ∷ fieldsQuestion (laterFields trace)
-    ∷ question 20 (leb (5 * length (callsOf trace)) room)
-    ∷ []
+traceQuestions trace room = fieldQuestions trace ++ (question 20 (leb (5 * length (callsOf trace)) room) ∷ [])
 
 unfoldable pub traceNumber : (trace : List ℕ) (room : ℕ) → ℕ
 traceNumber trace room = firstNo (traceQuestions trace room)

@@ -1,6 +1,7 @@
 // A call's body decoded, and the call made. Of the board only the promises of its calls are known here.
 ghost use mathlib.Core.Path.{_≡_};
 ghost use Prim.Native.Nat.{ℕ, _≤_};
+ghost use mathlib.Core.Bool.{true};
 ghost use mathlib.Core.List.{List, _++_};
 ghost use lib.IntN.{ℤ};
 ghost use lib.ListN.{length, drop};
@@ -8,7 +9,9 @@ ghost use Rattle.analog.specs.Answers.{numberOf, valueOf};
 ghost use Rattle.pmc330_model.specs.Board.{boardCall};
 ghost use Rattle.pmc330_model.specs.Lent.{boardIn};
 ghost use Rattle.trace.specs.Grammar.{lengthOf, callOf, signedOf};
+ghost use Rattle.trace.specs.Fields.{isWhole, firstField, callIn};
 ghost use Rattle.trace.specs.Play.{answerBytes};
+ghost use Rattle.trace.specs.Replay.{isEqual};
 use crate::fields;
 use analog::Answer;
 use pmc330::lent;
@@ -126,7 +129,7 @@ fn clear(unread: &mut [u8; 32], body: &[u8]) -> Answer
 }
 
 // The call of a tag and a body, on the board that is lent. A tag that is no other call's is taken as reset.
-pub(crate) fn call(
+fn call(
     words: &mut [u32; 17],
     inputs: &mut [i32; 32],
     gains: &mut [u8; 32],
@@ -163,6 +166,33 @@ pub(crate) fn call(
     lent::reset(words, inputs, gains, codes, unread)
 }
 
+// The call of the field at `at`: by its tag, with its body as a part of the trace.
+pub(crate) fn call_at(
+    words: &mut [u32; 17],
+    inputs: &mut [i32; 32],
+    gains: &mut [u8; 32],
+    codes: &mut [u16; 32],
+    unread: &mut [u8; 32],
+    trace: &[u8],
+    at: usize,
+) -> Answer
+    requires { ⌜ isWhole (drop at (now trace)) ≡ true ⌝ }
+    ensures answer { λ r. ⌜ r ≡ boardCall (boardIn (now (words .entry)) (now (inputs .entry)) (now (gains .entry)) (now (codes .entry)) (now (unread .entry))) (callIn (firstField (drop at (now (trace .entry))))) .answer ⌝ }
+    ensures board { λ _. ⌜ boardIn (now (words .exit)) (now (inputs .exit)) (now (gains .exit)) (now (codes .exit)) (now (unread .exit)) ≡ boardCall (boardIn (now (words .entry)) (now (inputs .entry)) (now (gains .entry)) (now (codes .entry)) (now (unread .entry))) (callIn (firstField (drop at (now (trace .entry))))) .board ⌝ }
+{
+    let body = at + 3;
+    let end = body + fields::size_at(trace, at);
+    call(
+        words,
+        inputs,
+        gains,
+        codes,
+        unread,
+        trace[at],
+        &trace[body..end],
+    )
+}
+
 fn number_of(answer: Answer) -> u8
     ensures { λ r. ⌜ r ≡ numberOf answer ⌝ }
 {
@@ -179,6 +209,17 @@ fn value_of(answer: Answer) -> u32
         Answer::Accepted(value) => value,
         Answer::Refused(_) => 0,
     }
+}
+
+// Whether an answer is equal to a recorded one: in number, and in the low 16 bits of value.
+pub(crate) fn is_equal(answer: Answer, body: &[u8]) -> bool
+    requires { ⌜ length (now body) ≡ 5 ⌝ }
+    ensures { λ t. ⌜ t ≡ isEqual answer (now (body .entry)) ⌝ }
+{
+    if number_of(answer) as u32 != fields::number(&body[0..1]) {
+        return false;
+    }
+    value_of(answer) % 65_536 == fields::number(&body[1..5]) % 65_536
 }
 
 // The answer's five bytes at the front of what is left of the buffer.

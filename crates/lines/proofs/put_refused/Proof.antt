@@ -1,52 +1,22 @@
--- The text grows part by part.
-use mathlib.Core.Path.{refl}
-use native.Mathlib.Omega.{arith}
-use Rattle.lines.specs.Text.{decimalOf, refusedOf, refusedWord, newline}
-use Rattle.lines.proofs.PartLaws.{begin, more, takes, takes-none}
+-- A word and a number.
+use Rattle.lines.specs.Text.{refusedOf}
 use borrow.Author.Needs.{needs}
 use Rattle.lines.proofs.put_refused.Statement.{statement}
 use Rattle.lines.proofs.put_refused.Tie as tie
 
-returns : tie.Need-returns
-returns c = takes-none _ _ (c .if1 .taken)
+slice-aggregate-put-numbered : tie.Need-slice-aggregate-put-numbered
+slice-aggregate-put-numbered c = search needs
 
-put-refused-word-requires : tie.Need-put-refused-word-requires
-put-refused-word-requires c κs = search needs
-
-put-decimal-requires : tie.Need-put-decimal-requires
-put-decimal-requires c κs = search needs
-
-put-byte-requires : tie.Need-put-byte-requires
-put-byte-requires c κs = search needs
-
-add-result : tie.Need-add-result
-add-result c = search needs
+put-numbered-requires : tie.Need-put-numbered-requires
+put-numbered-requires c κs = search needs
 
 same-length : tie.Need-same-length
 same-length c = search needs
 
-returns-2 : tie.Need-returns-2
+returns : tie.Need-returns
 unfolding refusedOf
-returns-2 c =
-    let end = c .before .before in
-    let decimal = end .before .before .before .before in
-    let word = decimal .before .before .before .before in
-    let large = word .before .before in
-    let args = large .before .before .args in
-    let buffer = args .out .now in
-    let one = begin buffer _ refusedWord 8 refl (word .put-refused-word .ensures) in
-    let two = more buffer _ _ _ (decimalOf (args .number)) _ _ one (decimal .put-decimal .ensures .0) (decimal .put-decimal .ensures .2) in
-    takes (refusedOf (args .number)) buffer _ _ (large .if1 .left) (omega arith)
-    (more buffer _ _ _ newline _ _ two refl (end .put-byte .ensures))
+returns c = c .before .before .put-numbered .ensures
 
 pub put-refused-spec : {M : Type 1} → statement M
 put-refused-spec =
-    tie.close
-    (tie.spec
-    returns
-    put-refused-word-requires
-    put-decimal-requires
-    put-byte-requires
-    add-result
-    same-length
-    returns-2)
+    tie.close (tie.spec slice-aggregate-put-numbered put-numbered-requires same-length returns)

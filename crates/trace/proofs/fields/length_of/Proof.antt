@@ -35,11 +35,15 @@ unfolding lengthOf lengthIn
 returns-7 c = (sym (ap lengthOf (c .match .keys7)), omega arith)
 
 returns-8 : tie.Need-returns-8
-returns-8 c =
+unfolding lengthOf lengthIn
+returns-8 c = (sym (ap lengthOf (c .match .keys8)), omega arith)
+
+returns-9 : tie.Need-returns-9
+returns-9 c =
     let none = c .match .rest in (
-      sym (length-none (c .before .args .tag) (none .0 .0 .0 .0 .0 .0 .1) (none .0 .0 .0 .0 .0 .1) (none .0 .0 .0 .0 .1) (none .0 .0 .0 .1) (none .0 .0 .1) (none .0 .1) (none .1)),
+      sym (length-none (c .before .args .tag) (none .0 .0 .0 .0 .0 .0 .0 .1) (none .0 .0 .0 .0 .0 .0 .1) (none .0 .0 .0 .0 .0 .1) (none .0 .0 .0 .0 .1) (none .0 .0 .0 .1) (none .0 .0 .1) (none .0 .1) (none .1)),
       omega arith,
     )
 
 pub length-of-spec : {M : Type 1} → statement M
-length-of-spec = tie.close (tie.spec returns returns-2 returns-3 returns-4 returns-5 returns-6 returns-7 returns-8)
+length-of-spec = tie.close (tie.spec returns returns-2 returns-3 returns-4 returns-5 returns-6 returns-7 returns-8 returns-9)
