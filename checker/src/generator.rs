@@ -284,15 +284,14 @@ impl Maker {
             Some(interval) => (interval, 1),
             None => self.any_interval(),
         };
-        let mut words = [
+        let low = self.random.below(256);
+        let words = [
             (0x04, control),
-            (0x08, prescaler << 8 | self.random.below(256)),
+            (0x08, prescaler << 8 | low),
             (0x0C, timer),
             (0x10, channels),
         ];
-        let first = self.random.below(4) as usize;
-        words.rotate_left(first);
-        for (offset, word) in words {
+        for (offset, word) in self.random.turned(words) {
             self.write_word(offset, word);
         }
         if self.random.one_in(2) {

@@ -16,7 +16,9 @@ pub enum Event {
     },
     Release,
     CycleStart,
+    /// With its tick, for how long a channel waits (02, A7); 01's questions need none.
     Store {
+        tick: u64,
         slot: usize,
         code: u32,
         interrupts: bool,
@@ -437,6 +439,7 @@ impl Logbook {
             _ => false,
         };
         self.events.push(Event::Store {
+            tick: self.tick,
             slot,
             code,
             interrupts,

@@ -47,6 +47,13 @@ impl Random {
         choices[(self.bits() % choices.len() as u64) as usize]
     }
 
+    /// The same items in turn, from any of them on.
+    pub fn turned<T, const N: usize>(&mut self, mut items: [T; N]) -> [T; N] {
+        let first = self.below(N as u32) as usize;
+        items.rotate_left(first);
+        items
+    }
+
     /// True once in n times.
     pub fn one_in(&mut self, n: u32) -> bool {
         self.below(n) == 0

@@ -172,6 +172,12 @@ impl SteppedBoard {
         unsafe { std::mem::transmute(*self) }
     }
 
+    /// The same board, but for the New and Missed bits of its slots?
+    pub fn is_same_but_for_bits(&self, other: &SteppedBoard) -> bool {
+        let unread = other.unread;
+        SteppedBoard { unread, ..*self } == *other
+    }
+
     pub fn words_mut(&mut self) -> &mut [u32; 17] {
         &mut self.words
     }

@@ -203,16 +203,17 @@ fn the_events_of_a_trigger_before_arming() {
     for step in steps(ignored).into_iter().chain(steps(taken)) {
         assert_eq!(logbook.call(&step.call), step.expected);
     }
-    let store = |slot, code, interrupts| Event::Store {
+    let store = |tick, slot, code, interrupts| Event::Store {
+        tick,
         slot,
         code,
         interrupts,
     };
     // 0 formatted; then conversions 0 and 1, passes of one channel each, of 0 uV.
     let stores = [
-        store(3, 0x8000, false),
-        store(3, 0, true),
-        store(19, 0, true),
+        store(0, 3, 0x8000, false),
+        store(64, 3, 0, true),
+        store(128, 19, 0, true),
     ];
     assert_eq!(logbook.events[0], Event::Reset);
     assert_eq!(logbook.events[1..], stores);

@@ -1,6 +1,7 @@
 pub mod Cases
 pub mod QuestionLaws
 pub mod Schedule
+pub mod Passes
 pub mod Agreement
 pub mod Memory
 pub mod Due
@@ -18,6 +19,7 @@ pub mod Writes
 pub mod CallsAgree
 pub mod Theorems
 pub mod Looks
+pub mod Waiting
 pub mod Jumps
 pub mod Countdowns
 pub mod NextStores

@@ -9,7 +9,7 @@ use lib.Dec.{eqb}
 use lib.ListN.{getD, set, length, replicate, length-set}
 use lib.Seq.{getD-set-same, getD-set-other, set-out}
 use borrow.Author.Tests.{eq-eqb, ne-eqb}
-use Rattle.pmc330_model.specs.Logbook.{Event, wasReset, cycleStart, release, wasRead, store, lastStore, storesSince, interrupted}
+use Rattle.pmc330_model.specs.Logbook.{Store, Event, wasReset, cycleStart, release, wasRead, store, lastStore, storesSince, interrupted}
 use Rattle.pmc330_model.proofs.Agreement.{Memory}
 use Rattle.pmc330_model.proofs.Cases.{same-or-not, lt-or-le}
 
@@ -58,21 +58,23 @@ module _ (events : List Event) (codes unread : List ℕ) (pending : Bool) (h : M
       (same-or-not s j)
 
   pub memory-store :
-      (s code : ℕ) (interrupts : Bool) → code < 65536
-      → Memory (store s code interrupts ∷ events) (set codes s code) (set unread s (min 2 (getD unread s 0 + 1))) (pending || interrupts)
+      (s : Store) → s .code < 65536
+      → Memory (store s ∷ events) (set codes (s .slot) (s .code)) (set unread (s .slot) (min 2 (getD unread (s .slot) 0 + 1)))
+      (pending || s .interrupts)
   unfolding lastStore storesSince interrupted
-  memory-store s code interrupts small =
+  memory-store s small =
+      let slot : ℕ = s .slot in
       record {
-        codesLong = length-set codes s code ∙ h .codesLong;
-        unreadLong = length-set unread s (min 2 (getD unread s 0 + 1)) ∙ h .unreadLong;
-        small = set-below codes s code 65536 small (h .small);
-        code = λ j below. set-at codes s code j (h .codesLong) below ∙ ap (cond (eqb s j) code) (h .code j below);
+        codesLong = length-set codes slot (s .code) ∙ h .codesLong;
+        unreadLong = length-set unread slot (min 2 (getD unread slot 0 + 1)) ∙ h .unreadLong;
+        small = set-below codes slot (s .code) 65536 small (h .small);
+        code = λ j below. set-at codes slot (s .code) j (h .codesLong) below ∙ ap (cond (eqb slot j) (s .code)) (h .code j below);
         count =
             λ j below.
-            set-at unread s (min 2 (getD unread s 0 + 1)) j (h .unreadLong) below
-            ∙ own s j (getD unread j 0)
-            ∙ more (eqb s j) (getD unread j 0) (storesSince j events) (h .count j below);
-        interrupt = ap (λ (t : Bool). t || interrupts) (h .interrupt) ∙ or-turned (interrupted events) interrupts;
+            set-at unread slot (min 2 (getD unread slot 0 + 1)) j (h .unreadLong) below
+            ∙ own slot j (getD unread j 0)
+            ∙ more (eqb slot j) (getD unread j 0) (storesSince j events) (h .count j below);
+        interrupt = ap (λ (t : Bool). t || s .interrupts) (h .interrupt) ∙ or-turned (interrupted events) (s .interrupts);
       }
 
   pub memory-read : (s : ℕ) → Memory (wasRead s ∷ events) codes (set unread s 0) pending

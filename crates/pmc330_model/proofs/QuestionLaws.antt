@@ -56,11 +56,16 @@ no-start (missedData half) word resulting e = refl
 no-start (gain group) word resulting e = refl
 no-start (mailbox slot) word resulting e = refl
 
-pub running-unstarted :
-    (r : Registers) (gains : List ℕ) (width offset value : ℕ) → firstNo (callQuestions r gains false (write width offset value)) ≡ 0
-    → isStart (classOf offset) (resultingWord r gains width offset value) ≡ false
-unfolding callQuestions
-running-unstarted r gains width offset value e =
-    let word : ℕ = resultingWord r gains width offset value in
-    let five : firstNo (wordQuestions r false (classOf offset) word (withWord (classOf offset) word r)) ≡ 0 = rest-met 3 _ _ (rest-met 2 _ _ (rest-met 1 _ _ (rest-met 0 _ _ e))) in
-    no-start (classOf offset) word (withWord (classOf offset) word r) (first-met 5 _ _ (rest-met 4 _ _ five))
+module _ (r : Registers) (gains : List ℕ) (width offset value : ℕ)
+    (met : firstNo (callQuestions r gains false (write width offset value)) ≡ 0) where
+  abbrev word : ℕ
+  word = resultingWord r gains width offset value
+
+  pub running-allowed : isAllowed false (classOf offset) word (withWord (classOf offset) word r) ≡ true
+  unfolding callQuestions
+  running-allowed =
+      let five : firstNo (wordQuestions r false (classOf offset) word (withWord (classOf offset) word r)) ≡ 0 = rest-met 3 _ _ (rest-met 2 _ _ (rest-met 1 _ _ (rest-met 0 _ _ met))) in
+      first-met 5 _ _ (rest-met 4 _ _ five)
+
+  pub running-unstarted : isStart (classOf offset) word ≡ false
+  running-unstarted = no-start (classOf offset) word (withWord (classOf offset) word r) running-allowed

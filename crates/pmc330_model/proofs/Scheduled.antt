@@ -16,7 +16,7 @@ use Rattle.pmc330_model.specs.Words.{isRelease, isStop, isStart}
 use Rattle.pmc330_model.specs.Schedule.{isBurst, isSingle, isTimed, isTriggerOnly, channelOf, endsPass, codeAt, beginsAt, isScheduled, Due, none, conversion, orElse, firstFrom}
 use Rattle.pmc330_model.specs.Calls.{Call, read, write, input, advance, trigger, reset, look, clear}
 use Rattle.pmc330_model.specs.Questions.{callQuestions, resultingWord, hasChannels, hasInterval}
-use Rattle.pmc330_model.specs.Logbook.{Event, Running, idle, since, release, cycleStart, store, Logbook, withHappened, begins, stores, storesInTime, dueAfter, ifDue, storesDue, beginsDue, tickPasses, ticksPass, starts, isTaken, storesBefore, takes, armsByTrigger, triggeredIn, triggerComes, readEvent, writes, happens, isIdle, logbookQuestions, logged}
+use Rattle.pmc330_model.specs.Logbook.{Event, Running, idle, since, release, cycleStart, wasRead, Logbook, withHappened, begins, stores, storesInTime, dueAfter, ifDue, storesDue, beginsDue, tickPasses, ticksPass, starts, isTaken, storesBefore, takes, armsByTrigger, triggeredIn, triggerComes, readEvent, writes, happens, isIdle, logbookQuestions, logged}
 use Rattle.pmc330_model.specs.Sentences.{InCycle, mayStore, storesAmong, Scheduled, isTimeless, EveryTick}
 use Rattle.pmc330_model.specs.declared.Registers.{Registers}
 use Rattle.pmc330_model.proofs.Agreement.{Startable}
@@ -42,11 +42,12 @@ search-real test (suc n) from k e = go (test from) refl (search-real test n (suc
 -- ---- a tick
 
 -- the tick before its store, and after it
-abbrev next : Logbook → Logbook
+abbrev pub next : Logbook → Logbook
 next l = withHappened l (suc (l .tick)) (l .taken) (l .cycle) (l .events)
 
 -- a beginning is no event, takes no time and leaves the cycle
 record Same (before after : Logbook) : Type 0 where
+  registers : after .registers ≡ before .registers
   events : after .events ≡ before .events
   tick : after .tick ≡ before .tick
   cycle : after .cycle ≡ before .cycle
@@ -55,33 +56,39 @@ begins-same : (l : Logbook) → Same l (beginsDue l)
 begins-same l = go (dueAfter 0 (l .registers) (l .tick) (l .cycle))
   where
     go : (due : Due) → Same l (ifDue due begins l)
-    go none = record { events = refl; tick = refl; cycle = refl }
-    go (conversion k) = record { events = refl; tick = refl; cycle = refl }
+    go none = record { registers = refl; events = refl; tick = refl; cycle = refl }
+    go (conversion k) = record { registers = refl; events = refl; tick = refl; cycle = refl }
 
 -- whether the store that is due ends a single cycle
-abbrev endsCycle : Registers → Due → Bool
+abbrev pub endsCycle : Registers → Due → Bool
 endsCycle r none = false
 endsCycle r (conversion k) = isSingle r && endsPass r k
 
 -- the store that is due is the tick's one event
-record Stored (l after : Logbook) (due : Due) : Type 0 where
-  events : after .events ≡ ifDue due stores l .events
-  tick : after .tick ≡ suc (l .tick)
-  cycle : after .cycle ≡ cond (endsCycle (l .registers) due) idle (l .cycle)
+pub record Stored (l after : Logbook) (due : Due) : Type 0 where
+  pub registers : after .registers ≡ l .registers
+  pub events : after .events ≡ ifDue due stores (next l) .events
+  pub tick : after .tick ≡ suc (l .tick)
+  pub cycle : after .cycle ≡ cond (endsCycle (l .registers) due) idle (l .cycle)
 
 stored-is : (l : Logbook) (due : Due) → dueAfter 64 (l .registers) (suc (l .tick)) (l .cycle) ≡ due → Stored l (storesDue (next l)) due
 stored-is l due e = subst (λ (d : Due). Stored l (ifDue d storesInTime (next l)) due) (sym e) (go due)
   where
     go : (d : Due) → Stored l (ifDue d storesInTime (next l)) d
-    go none = record { events = refl; tick = refl; cycle = refl }
-    go (conversion k) = record { events = refl; tick = refl; cycle = refl }
+    go none = record { registers = refl; events = refl; tick = refl; cycle = refl }
+    go (conversion k) = record { registers = refl; events = refl; tick = refl; cycle = refl }
 
-tick-is : (l : Logbook) (due : Due) → dueAfter 64 (l .registers) (suc (l .tick)) (l .cycle) ≡ due → Stored l (tickPasses l) due
+pub tick-is : (l : Logbook) (due : Due) → dueAfter 64 (l .registers) (suc (l .tick)) (l .cycle) ≡ due → Stored l (tickPasses l) due
 unfolding tickPasses
 tick-is l due e =
     let stored = stored-is l due e in
     let same = begins-same (storesDue (next l)) in
-    record { events = same .events ∙ stored .events; tick = same .tick ∙ stored .tick; cycle = same .cycle ∙ stored .cycle }
+    record {
+      registers = same .registers ∙ stored .registers;
+      events = same .events ∙ stored .events;
+      tick = same .tick ∙ stored .tick;
+      cycle = same .cycle ∙ stored .cycle;
+    }
 
 -- the code that the tick takes, by what begins at it once the store is made
 tick-taken :
@@ -218,7 +225,7 @@ module _ (l : Logbook) (T : ℕ) (triggers : List ℕ) (running : l .cycle ≡ s
 -- ---- a call: what it leaves as it is
 
 -- what holds of a logbook before a call and after it has happened holds after the call, refused or not
-either : (P : Logbook → Type 0) (l : Logbook) (call : Call) → (firstNo (logbookQuestions l call) ≡ 0 → P (happens l call)) → P l → P (logged l call)
+pub either : (P : Logbook → Type 0) (l : Logbook) (call : Call) → (firstNo (logbookQuestions l call) ≡ 0 → P (happens l call)) → P l → P (logged l call)
 unfolding logged
 either P l call happened before = go (eqb (firstNo (logbookQuestions l call)) 0) refl
   where
@@ -227,11 +234,11 @@ either P l call happened before = go (eqb (firstNo (logbookQuestions l call)) 0)
     go false e = before
 
 -- a start makes no store and takes no time
-record Still (before after : Logbook) : Type 0 where
-  made : storesAmong (after .events) ≡ storesAmong (before .events)
-  tick : after .tick ≡ before .tick
+pub record Still (before after : Logbook) : Type 0 where
+  pub made : storesAmong (after .events) ≡ storesAmong (before .events)
+  pub tick : after .tick ≡ before .tick
 
-start-still : (l : Logbook) → Still l (starts l)
+pub start-still : (l : Logbook) → Still l (starts l)
 unfolding starts storesAmong
 start-still l = go (isBurst (l .registers)) (withHappened l (l .tick) (l .taken) (since (l .tick) []) (cycleStart ∷ l .events)) refl refl
   where
@@ -244,20 +251,21 @@ if-starts l written true h =
     record { made = start-still written .made ∙ h .made; tick = start-still written .tick ∙ h .tick }
 if-starts l written false h = h
 
--- a read is no store
-read-still : (register : Register) (events : List Event) → storesAmong (readEvent register events) ≡ storesAmong events
-unfolding storesAmong
-read-still unmapped events = refl
-read-still interrupt events = refl
-read-still control events = refl
-read-still prescaler events = refl
-read-still timer events = refl
-read-still channels events = refl
-read-still startConvert events = refl
-read-still (newData half) events = refl
-read-still (missedData half) events = refl
-read-still (gain group) events = refl
-read-still (mailbox slot) events = refl
+-- what holds of some events, and of them after a read of any slot, holds after a read of any register
+pub read-either :
+    (P : List Event → Type 0) (register : Register) (events : List Event) → P events → ((slot : ℕ) → P (wasRead slot ∷ events))
+    → P (readEvent register events)
+read-either P unmapped events same more = same
+read-either P interrupt events same more = same
+read-either P control events same more = same
+read-either P prescaler events same more = same
+read-either P timer events same more = same
+read-either P channels events same more = same
+read-either P startConvert events same more = same
+read-either P (newData half) events same more = same
+read-either P (missedData half) events same more = same
+read-either P (gain group) events same more = same
+read-either P (mailbox slot) events same more = more slot
 
 write-still : (register : Register) (word : ℕ) (l : Logbook) → Still l (writes register word l)
 unfolding writes storesAmong
@@ -271,7 +279,7 @@ write-still register word l = if-starts l _ (isStart register word) (record { ma
 
 -- what holds of a logbook, of its start or its arming where it is idle, and of a trigger taken where it is armed, holds after a
 -- trigger
-triggered :
+pub triggered :
     (P : Logbook → Type 0) (l : Logbook) → P l → (l .cycle ≡ idle → isTriggerOnly (l .registers) ≡ false → P (starts l))
     → (l .cycle ≡ idle → isTriggerOnly (l .registers) ≡ true → P (armsByTrigger l))
     → ((T : ℕ) (triggers : List ℕ) → l .cycle ≡ since T triggers → isTriggerOnly (l .registers) ≡ true
@@ -324,7 +332,7 @@ abbrev triggersAtFirst : Logbook → Call → List ℕ
 triggersAtFirst l call = cond (mayStore (l .registers) call) (l .tick ∷ []) []
 
 -- what holds of a fresh cycle holds of the cycle after a start
-start-cycle : (P : Running → Type 0) (l : Logbook) → P (since (l .tick) []) → P (starts l .cycle)
+pub start-cycle : (P : Running → Type 0) (l : Logbook) → P (since (l .tick) []) → P (starts l .cycle)
 unfolding starts
 start-cycle P l h = go (isBurst (l .registers)) (withHappened l (l .tick) (l .taken) (since (l .tick) []) (cycleStart ∷ l .events)) h
   where
@@ -338,7 +346,7 @@ module _ (P : Running → Type 0) (stopped : P idle) where
   one-of true cycle h = stopped
   one-of false cycle h = h
 
-  ticks-cycle : (n : ℕ) (l : Logbook) → P (l .cycle) → P (ticksPass n l .cycle)
+  pub ticks-cycle : (n : ℕ) (l : Logbook) → P (l .cycle) → P (ticksPass n l .cycle)
   unfolding ticksPass
   ticks-cycle zero l h = h
   ticks-cycle (suc n) l h =
@@ -497,7 +505,8 @@ code-kept l (clear slot) h e = refl
 
 other-made : (l : Logbook) (call : Call) → mayStore (l .registers) call ≡ false → storesAmong (happens l call .events) ≡ storesAmong (l .events)
 unfolding happens storesAmong
-other-made l (read width offset) other = read-still (classOf offset) (l .events)
+other-made l (read width offset) other =
+    read-either (λ (after : List Event). storesAmong after ≡ storesAmong (l .events)) (classOf offset) (l .events) refl (λ slot. refl)
 other-made l (write width offset value) other =
     write-still (classOf offset) (resultingWord (l .registers) (l .gains) width offset value) l .made
 other-made l (input channel microvolts) other = refl

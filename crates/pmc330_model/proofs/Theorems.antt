@@ -15,9 +15,9 @@ use Rattle.pmc330_model.specs.Calls.{Call}
 use Rattle.pmc330_model.specs.Board.{newBoard, ticked, advanced, isStoreDue, storesIn, questionsOf, afterCall, valueOfCall, boardCall, advanceCall, boardFrom, answersFrom, boardAfter}
 use Rattle.pmc330_model.specs.Logbook.{Running, since, Logbook, wasReset, idle, newLogbook, logged, loggedAnswer, loggedFrom, loggedAnswersFrom, logbookOf}
 use Rattle.pmc330_model.specs.Questions.{callQuestions}
-use Rattle.pmc330_model.specs.Sentences.{Sentence1, Sentence3, EveryCall1, AfterList1, EveryList1, EveryNew1, EveryAnswer, EveryList3, Scheduled, EverySchedule, EveryTick, EveryPair, EveryAdvances, boardAfterAdvances, valueOfAdvances}
+use Rattle.pmc330_model.specs.Sentences.{Sentence1, Sentence3, EveryCall1, AfterList1, EveryList1, EveryNew1, EveryAnswer, EveryList3, EverySchedule, EveryTick, EveryPair, EveryAdvances, boardAfterAdvances, valueOfAdvances}
 use Rattle.pmc330_model.specs.declared.Board.{Board}
-use Rattle.pmc330_model.proofs.Agreement.{bookOf, Startable, CycleAgrees, Related}
+use Rattle.pmc330_model.proofs.Agreement.{Startable, CycleAgrees, Related}
 use Rattle.pmc330_model.proofs.CallsAgree.{questions-same, answer-same, call-agrees}
 use Rattle.pmc330_model.proofs.Cases.{lt-or-le}
 use Rattle.pmc330_model.proofs.Memory.{memory-reset}
@@ -69,7 +69,7 @@ opening range =
           };
     }
 
-related-call : (l : Logbook) (b : Board) → Related l b → (call : Call) → Related (logged l call) (boardCall b call .board)
+pub related-call : (l : Logbook) (b : Board) → Related l b → (call : Call) → Related (logged l call) (boardCall b call .board)
 related-call l b h call =
     subst (λ (book : Logbook). Related (logged book call) (boardCall b call .board)) (sym (h .same))
     (call-agrees b (h .tick) (h .cycle) (h .events) (h .agrees) call)
@@ -98,18 +98,16 @@ sentence1After range valid calls next =
     (sentence1 (boardAfter range calls) next))
 
 -- a running cycle met questions 9 and 10
-running-startable :
-    (b : Board) (tick : ℕ) (cycle : Running) → CycleAgrees (b .registers) tick cycle (b .cycle)
-    → (T : ℕ) (triggers : List ℕ) → cycle ≡ since T triggers → Startable (b .registers)
-running-startable b tick cycle h T triggers running =
-    subst (λ (c : Running). CycleAgrees (b .registers) tick c (b .cycle)) running h .startable
+pub running-startable :
+    (l : Logbook) (b : Board) → Related l b → (T : ℕ) (triggers : List ℕ) → l .cycle ≡ since T triggers → Startable (l .registers)
+running-startable l b h T triggers running =
+    let cycle : h .cycle ≡ since T triggers = sym (ap (λ (book : Logbook). book .cycle) (h .same)) ∙ running in
+    subst (λ (book : Logbook). Startable (book .registers)) (sym (h .same))
+    (subst (λ (c : Running). CycleAgrees (b .registers) (h .tick) c (b .cycle)) cycle (h .agrees .running) .startable)
 
 pub schedule : EverySchedule
 schedule range valid calls =
-    let h = after range calls in
-    subst Scheduled (sym (h .same))
-    (scheduled (bookOf (boardAfter range calls) (h .tick) (h .cycle) (h .events))
-    (running-startable (boardAfter range calls) (h .tick) (h .cycle) (h .agrees .running)))
+    scheduled (logbookOf range calls) (running-startable (logbookOf range calls) (boardAfter range calls) (after range calls))
 
 pub ticksCounted : EveryTick
 ticksCounted = ticks-counted

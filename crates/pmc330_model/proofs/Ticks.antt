@@ -168,7 +168,7 @@ module _ (b : Board) (tick T : ℕ) (triggers : List ℕ) (events : List Event) 
 
     module _ (one : b .cycle .lag ≡ 1) where
       -- the logbook after the store; a single pass may be over
-      stored-book : storesDue (bookOf b (suc tick) (since T triggers) events) ≡ bookOf (storedInTime later) (suc tick) (cond (isSingle (b .registers) && endsPass (b .registers) (flight .j)) idle (since T triggers)) (storeOf b (flight .j) ∷ events)
+      stored-book : storesDue (bookOf b (suc tick) (since T triggers) events) ≡ bookOf (storedInTime later) (suc tick) (cond (isSingle (b .registers) && endsPass (b .registers) (flight .j)) idle (since T triggers)) (storeOf b (suc tick) (flight .j) ∷ events)
       unfolding stored
       stored-book =
           ap (λ due. ifDue due storesInTime (bookOf b (suc tick) (since T triggers) events))
@@ -177,13 +177,13 @@ module _ (b : Board) (tick T : ℕ) (triggers : List ℕ) (events : List Event) 
           now : {n : ℕ} → n ≡ 1 → tick + n ≡ suc tick
           now e = omega arith
 
-      memory-after : Memory (storeOf b (flight .j) ∷ events) (storedInTime later .codes) (storedInTime later .unread) (storedInTime later .pending)
+      memory-after : Memory (storeOf b (suc tick) (flight .j) ∷ events) (storedInTime later .codes) (storedInTime later .unread) (storedInTime later .pending)
       unfolding stored
       memory-after =
           unfold stored in
-          stored-memory b startable (flight .j) (b .cycle .slot) (b .cycle .ends) (flight .slot) (flight .ends) events memory held
+          stored-memory b startable (suc tick) (flight .j) (b .cycle .slot) (b .cycle .ends) (flight .slot) (flight .ends) events memory held
 
-      counted : storesMade (storeOf b (flight .j) ∷ events) ≡ 1 + storesMade events
+      counted : storesMade (storeOf b (suc tick) (flight .j) ∷ events) ≡ 1 + storesMade events
       unfolding storesMade
       counted = omega arith
 
@@ -227,11 +227,11 @@ module _ (b : Board) (tick T : ℕ) (triggers : List ℕ) (events : List Event) 
           (record {
             tick = suc tick;
             cycle = idle;
-            events = storeOf b (flight .j) ∷ events;
+            events = storeOf b (suc tick) (flight .j) ∷ events;
             same =
                 ap beginsDue
                 (stored-book
-                ∙ ap (λ (over : Bool). bookOf (storedInTime later) (suc tick) (cond over idle (since T triggers)) (storeOf b (flight .j) ∷ events)) e);
+                ∙ ap (λ (over : Bool). bookOf (storedInTime later) (suc tick) (cond over idle (since T triggers)) (storeOf b (suc tick) (flight .j) ∷ events)) e);
             agrees =
                 record {
                   memory = memory-after;
@@ -261,15 +261,15 @@ module _ (b : Board) (tick T : ℕ) (triggers : List ℕ) (events : List Event) 
       goes-on : (isSingle (b .registers) && endsPass (b .registers) (flight .j)) ≡ false → Done (begunIfDue (eqb (b .cycle .lead) 1) (storedInTime later)) 1
       unfolding stored tickPasses
       goes-on e =
-          let begun-half = begin-half (storedInTime later) startable T tick k triggers (storeOf b (flight .j) ∷ events) (b .cycle) memory-after limits held (stored-between e) in
+          let begun-half = begin-half (storedInTime later) startable T tick k triggers (storeOf b (suc tick) (flight .j) ∷ events) (b .cycle) memory-after limits held (stored-between e) in
           record {
             tick = suc tick;
             cycle = since T triggers;
-            events = storeOf b (flight .j) ∷ events;
+            events = storeOf b (suc tick) (flight .j) ∷ events;
             same =
                 ap beginsDue
                 (stored-book
-                ∙ ap (λ (over : Bool). bookOf (storedInTime later) (suc tick) (cond over idle (since T triggers)) (storeOf b (flight .j) ∷ events)) e)
+                ∙ ap (λ (over : Bool). bookOf (storedInTime later) (suc tick) (cond over idle (since T triggers)) (storeOf b (suc tick) (flight .j) ∷ events)) e)
                 ∙ begun-half .0;
             agrees = begun-half .1;
             count = counted;

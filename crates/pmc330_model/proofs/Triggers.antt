@@ -11,7 +11,7 @@ use borrow.Author.Tests.{eq-eqb, ne-eqb, eqb-true, le-leb, lt-leb}
 use Rattle.pmc330_model.specs.Map.{triggerField, scanField}
 use Rattle.pmc330_model.specs.Schedule.{isTimed, isTriggerOnly}
 use Rattle.pmc330_model.specs.Board.{withCycle, stored, begun, freshCycle, triggerTaken, armedByTrigger, triggeredIdle, triggered}
-use Rattle.pmc330_model.specs.Logbook.{Event, Running, idle, since, storesBefore, isTaken, takesCode, takes, armsByTrigger, triggeredIn, triggerComes}
+use Rattle.pmc330_model.specs.Logbook.{Event, Running, idle, since, store, storeAt, storesBefore, isTaken, takesCode, takes, armsByTrigger, triggeredIn, triggerComes}
 use Rattle.pmc330_model.specs.Questions.{hasChannels, hasInterval}
 use Rattle.pmc330_model.specs.declared.Registers.{Registers}
 use Rattle.pmc330_model.specs.declared.Cycle.{Cycle}
@@ -21,7 +21,7 @@ use Rattle.pmc330_model.proofs.Begins.{begins-is, begun-ends, begun-ind
 use Rattle.pmc330_model.proofs.Cases.{never, and-left, and-right, lt-or-le}
 use Rattle.pmc330_model.proofs.Starts.{startable-of, fresh-armed, started-agrees}
 use Rattle.pmc330_model.proofs.Related.{unchanged, both}
-use Rattle.pmc330_model.proofs.Stores.{storeAt, slot-memory, storeOf, stored-memory}
+use Rattle.pmc330_model.proofs.Stores.{slot-memory, storeOf, stored-memory}
 
 -- a mode in time is not external trigger only
 timed-not-only : (r : Registers) → isTimed r ≡ true → isTriggerOnly r ≡ false
@@ -123,8 +123,8 @@ module _ (b : Board) (tick T : ℕ) (triggers : List ℕ) (events : List Event) 
       let k : ℕ = length (w .earlier) in
       rw board
       (subst (Taken (begun s)) (sym (w .are))
-      (code-taken s tick T triggers (agrees .limits) startable armed (since T triggers) (storeOf b k ∷ events)
-      (stored-memory b startable k (b .cycle .slot) (b .cycle .ends) (w .slot) (w .ends) events (agrees .memory) (agrees .held))))
+      (code-taken s tick T triggers (agrees .limits) startable armed (since T triggers) (storeOf b tick k ∷ events)
+      (stored-memory b startable tick k (b .cycle .slot) (b .cycle .ends) (w .slot) (w .ends) events (agrees .memory) (agrees .held))))
 
   pub taken-agrees : Related (takes T triggers (bookOf b tick (since T triggers) events)) (triggerTaken b)
   unfolding Taken
@@ -141,8 +141,8 @@ arming-agrees b tick events agrees only nine =
     (startable-of r (agrees .limits) nine (only-interval r only))
     (fresh-armed r tick (only-untimed r only) only)
     idle
-    (storeAt b (r .start) false ∷ events)
-    (slot-memory b (r .start) false (omega (arith, agrees .limits .start)) events (agrees .memory) (agrees .held))
+    (store (storeAt r tick (b .held) (r .start) false) ∷ events)
+    (slot-memory b tick (r .start) false (omega (arith, agrees .limits .start)) events (agrees .memory) (agrees .held))
 
 -- what a trigger does to a running board
 abbrev taken : Board → Board

@@ -32,14 +32,14 @@ and-false false = refl
 
 -- a running cycle does not depend on the board enable
 module _ (r : Registers) (enable : Bool) where
-  abbrev enabled : Registers
+  abbrev pub enabled : Registers
   enabled =
       record { enable = enable; control = r .control; prescaler = r .prescaler; timer = r .timer; start = r .start; end = r .end }
 
-  module _ (T tick : ℕ) (triggers : List ℕ) (c : Cycle) where
-    startable-kept : Startable r → Startable enabled
-    startable-kept s = record { ordered = s .ordered; most = s .most; half = s .half; slow = s .slow }
+  pub startable-kept : Startable r → Startable enabled
+  startable-kept s = record { ordered = s .ordered; most = s .most; half = s .half; slow = s .slow }
 
+  module _ (T tick : ℕ) (triggers : List ℕ) (c : Cycle) where
     next-kept : (k : ℕ) → ToCome r T tick k c ⊎ NoMore r k c → ToCome enabled T tick k c ⊎ NoMore enabled k c
     unfolding beginsAt
     next-kept k (inl next) = inl (record { scheduled = next .scheduled; some = next .some; due = next .due })
@@ -107,7 +107,7 @@ module _ (r : Registers) (enable : Bool) where
   cycle-kept tick (since T triggers) c h = running-kept T tick triggers c h
 
 -- the scan field of Control as it is kept
-kept-scan : (word : ℕ) → scanField (keptControl word) ≡ scanField word
+pub kept-scan : (word : ℕ) → scanField (keptControl word) ≡ scanField word
 kept-scan word = omega arith
 
 used-scan : (word : ℕ) → hasUsedCodes word ≡ true → scanField word ≤ 5

@@ -8,4 +8,5 @@ pub mod Jumps
 pub mod Lent
 pub mod Logbook
 pub mod Sentences
+pub mod Waiting
 pub mod Bench

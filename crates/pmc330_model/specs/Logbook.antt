@@ -15,12 +15,19 @@ use Rattle.pmc330_model.specs.Calls.{Call, read, write, input, advance, 
 use Rattle.pmc330_model.specs.Questions.{callQuestions, resultingWord, hasChannels, hasInterval}
 use Rattle.pmc330_model.specs.declared.Registers.{Registers}
 
--- "Releases and cycle starts are events; so is each store, with slot, formatted code and whether it interrupts."
--- `wasReset` and `wasRead` are 01's events reset and read
+-- a store, "with slot, formatted code and whether it interrupts", and, for 02's A7, with its tick: counted from the last reset, as
+-- the logbook's own tick is
+pub record Store : Type 0 where
+  pub slot : ℕ
+  pub code : ℕ
+  pub interrupts : Bool
+  pub tick : ℕ
+
+-- "Releases and cycle starts are events; so is each store". `wasReset` and `wasRead` are 01's events reset and read
 pub data Event : Type 0 where
   wasReset cycleStart release : Event
   wasRead : (slot : ℕ) → Event
-  store : (slot code : ℕ) (interrupts : Bool) → Event
+  store : Store → Event
 
 -- "the running cycle, if any, with its T and the ticks of the triggers taken in it", the latest first
 pub data Running : Type 0 where
@@ -62,7 +69,7 @@ lastStore slot (wasReset ∷ earlier) = 0
 lastStore slot (cycleStart ∷ earlier) = lastStore slot earlier
 lastStore slot (release ∷ earlier) = lastStore slot earlier
 lastStore slot (wasRead s ∷ earlier) = lastStore slot earlier
-lastStore slot (store s code interrupts ∷ earlier) = cond (eqb s slot) code (lastStore slot earlier)
+lastStore slot (store s ∷ earlier) = cond (eqb (s .slot) slot) (s .code) (lastStore slot earlier)
 
 -- the stores in that mailbox that "followed the last read of that mailbox, cycle start or reset"
 unfoldable pub storesSince : (slot : ℕ) → List Event → ℕ
@@ -71,7 +78,7 @@ storesSince slot (wasReset ∷ earlier) = 0
 storesSince slot (cycleStart ∷ earlier) = 0
 storesSince slot (release ∷ earlier) = storesSince slot earlier
 storesSince slot (wasRead s ∷ earlier) = cond (eqb s slot) 0 (storesSince slot earlier)
-storesSince slot (store s code interrupts ∷ earlier) = cond (eqb s slot) 1 0 + storesSince slot earlier
+storesSince slot (store s ∷ earlier) = cond (eqb (s .slot) slot) 1 0 + storesSince slot earlier
 
 -- "An interrupt is pending exactly when an interrupting store followed the last release or reset."
 unfoldable pub interrupted : List Event → Bool
@@ -80,7 +87,7 @@ interrupted (wasReset ∷ earlier) = false
 interrupted (cycleStart ∷ earlier) = interrupted earlier
 interrupted (release ∷ earlier) = false
 interrupted (wasRead s ∷ earlier) = interrupted earlier
-interrupted (store s code interrupts ∷ earlier) = interrupts || interrupted earlier
+interrupted (store s ∷ earlier) = s .interrupts || interrupted earlier
 
 -- all stores
 unfoldable pub storesMade : List Event → ℕ
@@ -89,7 +96,7 @@ storesMade (wasReset ∷ earlier) = storesMade earlier
 storesMade (cycleStart ∷ earlier) = storesMade earlier
 storesMade (release ∷ earlier) = storesMade earlier
 storesMade (wasRead s ∷ earlier) = storesMade earlier
-storesMade (store s code interrupts ∷ earlier) = suc (storesMade earlier)
+storesMade (store s ∷ earlier) = suc (storesMade earlier)
 
 -- what a board with these events shows through its registers, and to a look
 abbrev pub logbookView : Logbook → View
@@ -127,11 +134,15 @@ begins k l =
     (l .cycle)
     (l .events)
 
--- a store in a slot: the code last taken, in the format then in force
+-- a store at a tick, in a slot: the code last taken, in the format then in force, and whether it interrupts, by these registers
+abbrev pub storeAt : Registers → (tick taken slot : ℕ) (ends : Bool) → Store
+storeAt r tick taken slot ends =
+    record { slot = slot; code = formattedBy r taken; interrupts = isInterrupting r ends; tick = tick }
+
+-- the logbook after such a store, at its own tick
 abbrev pub storesAt : (slot : ℕ) (ends : Bool) → Logbook → Logbook
 storesAt slot ends l =
-    withHappened l (l .tick) (l .taken) (l .cycle)
-    (store slot (formattedBy (l .registers) (l .taken)) (isInterrupting (l .registers) ends) ∷ l .events)
+    withHappened l (l .tick) (l .taken) (l .cycle) (store (storeAt (l .registers) (l .tick) (l .taken) slot ends) ∷ l .events)
 
 -- conversion k is stored
 abbrev pub stores : (k : ℕ) → Logbook → Logbook

@@ -30,6 +30,9 @@ isBurst r = eqb (scanField (r .control)) 3 || eqb (scanField (r .control)) 4
 abbrev pub isSingle : Registers → Bool
 isSingle r = eqb (scanField (r .control)) 2 || eqb (scanField (r .control)) 4
 
+abbrev pub isContinuous : Registers → Bool
+isContinuous r = eqb (scanField (r .control)) 1 || eqb (scanField (r .control)) 3
+
 -- the modes with a schedule in time
 abbrev pub isTimed : Registers → Bool
 isTimed r = isUniform r || isBurst r
@@ -81,6 +84,10 @@ unfoldable pub beginsAt : Registers → (k : ℕ) → ℕ
 beginsAt r k =
     let m : ℕ = passLength r in
     cond (isUniform r) ((k + 1) * interval r) (k / m * (120 * m + burstDelay r) + 120 * (k % m))
+
+-- 02, A7: "The pass is m × I ticks in uniform mode and 120 × m + D in burst mode."
+abbrev pub passTicks : Registers → ℕ
+passTicks r = cond (isUniform r) (passLength r * interval r) (120 * passLength r + burstDelay r)
 
 -- the conversions of the schedule: "Single modes have k below m"
 abbrev pub isScheduled : Registers → (k : ℕ) → Bool

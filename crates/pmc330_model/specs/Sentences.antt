@@ -1,5 +1,5 @@
--- The sentences of the data sheet. Each `Every..` is proved in proofs/Theorems.antt, those of the next store in
--- proofs/NextStores.antt, those of request A2 in proofs/Looks.antt.
+-- The sentences of the data sheet, but for request A7's, which are in Waiting.antt. Each `Every..` is proved in
+-- proofs/Theorems.antt, those of the next store in proofs/NextStores.antt, those of request A2 in proofs/Looks.antt.
 use Prim.Native.Nat.{ℕ, suc, _+_, _-_, _*_, _/_, _%_, _≤_, _<_}
 use mathlib.Core.Bool.{Bool, true, false, cond, not, _&&_}
 use mathlib.Core.List.{List, [], _∷_}
@@ -12,11 +12,11 @@ use Rattle.analog.specs.Sums.{sumOf}
 use Rattle.analog.specs.declared.Answer.the-variants.{Accepted, Refused}
 use Rattle.pmc330_model.specs.Map.{triggerField}
 use Rattle.pmc330_model.specs.Words.{bitOf, readBytes}
-use Rattle.pmc330_model.specs.Schedule.{isTimed, isTriggerOnly, channelOf, slotOf, endsPass, codeAt, formattedBy, isInterrupting, beginsAt, isScheduled, conversion}
+use Rattle.pmc330_model.specs.Schedule.{isTimed, isTriggerOnly, channelOf, slotOf, endsPass, codeAt, beginsAt, isScheduled, conversion}
 use Rattle.pmc330_model.specs.Calls.{Call, read, write, input, advance, trigger, reset, look, clear}
 use Rattle.pmc330_model.specs.Questions.{callQuestions, hasChannels}
 use Rattle.pmc330_model.specs.Board.{boardCall, newCall, newBoard, readCall, advanceCall, lookCall, clearCall, viewOf, requestLine, nextStore, boardAfter, answersOf}
-use Rattle.pmc330_model.specs.Logbook.{Event, wasReset, cycleStart, release, wasRead, store, idle, since, isIdle, Logbook, lastStore, storesSince, interrupted, withHappened, dueAfter, tickPasses, ticksPass, logged, logbookOf, logbookAnswers}
+use Rattle.pmc330_model.specs.Logbook.{Event, wasReset, cycleStart, release, wasRead, store, storeAt, idle, since, isIdle, Logbook, lastStore, storesSince, interrupted, withHappened, dueAfter, tickPasses, ticksPass, logged, logbookOf, logbookAnswers}
 use Rattle.pmc330_model.specs.declared.Registers.{Registers}
 use Rattle.pmc330_model.specs.declared.Board.{Board}
 
@@ -97,8 +97,7 @@ pub record InCycle (l : Logbook) (T : ℕ) (triggers : List ℕ) : Type 0 where
   pub stored :
       (k : ℕ) → isScheduled (l .registers) k ≡ true → T + beginsAt (l .registers) k + 64 ≡ suc (l .tick)
       → tickPasses l .events
-      ≡ (store (slotOf (l .registers) k) (formattedBy (l .registers) (l .taken)) (isInterrupting (l .registers) (endsPass (l .registers) k))
-      ∷ l .events)
+      ≡ (store (storeAt (l .registers) (suc (l .tick)) (l .taken) (slotOf (l .registers) k) (endsPass (l .registers) k)) ∷ l .events)
   pub unstored :
       ((k : ℕ) → isScheduled (l .registers) k ≡ true → T + beginsAt (l .registers) k + 64 ≡ suc (l .tick) → ⊥)
       → tickPasses l .events ≡ l .events
@@ -139,7 +138,7 @@ storesAmong (wasReset ∷ earlier) = storesAmong earlier
 storesAmong (cycleStart ∷ earlier) = storesAmong earlier
 storesAmong (release ∷ earlier) = storesAmong earlier
 storesAmong (wasRead slot ∷ earlier) = storesAmong earlier
-storesAmong (store slot code interrupts ∷ earlier) = store slot code interrupts ∷ storesAmong earlier
+storesAmong (store s ∷ earlier) = store s ∷ storesAmong earlier
 
 -- Of a logbook: a cycle has its T from the call that begins it and keeps it, and a timed one is as above
 pub record Scheduled (l : Logbook) : Type 0 where
@@ -170,8 +169,7 @@ pub record Scheduled (l : Logbook) : Type 0 where
       → logged l trigger
       ≡ withHappened l (l .tick) (codeAt (l .range) (l .registers) (l .gains) (l .inputs) (channelOf (l .registers) (suc (length earlier))))
       (since T (l .tick ∷ last ∷ earlier))
-      (store (slotOf (l .registers) (length earlier)) (formattedBy (l .registers) (l .taken))
-      (isInterrupting (l .registers) (endsPass (l .registers) (length earlier)))
+      (store (storeAt (l .registers) (l .tick) (l .taken) (slotOf (l .registers) (length earlier)) (endsPass (l .registers) (length earlier)))
       ∷ l .events)
   -- 02, A4: while idle "it stores the code last taken since reset (0 if none), formatted, in the Start Channel's slot, and takes
   -- conversion 0", if question 9 is met. The store is one "that ends no pass" and the only event: there is no cycle start
@@ -181,7 +179,7 @@ pub record Scheduled (l : Logbook) : Type 0 where
       → logged l trigger
       ≡ withHappened l (l .tick) (codeAt (l .range) (l .registers) (l .gains) (l .inputs) (channelOf (l .registers) 0))
       (since (l .tick) (l .tick ∷ []))
-      (store (l .registers .start) (formattedBy (l .registers) (l .taken)) (isInterrupting (l .registers) false) ∷ l .events)
+      (store (storeAt (l .registers) (l .tick) (l .taken) (l .registers .start) false) ∷ l .events)
   -- every other trigger in this mode changes nothing
   pub ignored :
       isTriggerOnly (l .registers) ≡ true
