@@ -4,9 +4,8 @@ use mathlib.Core.HLevel.{is_prop→PathP}
 use mathlib.Core.Logic.{⊎_elim}
 use Prim.Native.Nat.{ℕ, zero, suc, ◌+◌, ◌-◌, ◌*◌, ◌/◌, ◌≤◌, ◌<◌, min}
 use native.Mathlib.Bridge.{le_prop}
-use native.Mathlib.Nat.{zero-div, one-mul, mul-pos, zero-lt-suc, sub-pos_iff_lt, le_of_lt}
+use native.Mathlib.Nat.{zero-div, one-mul, zero-lt-suc, sub-pos_iff_lt, le_of_lt}
 use native.Mathlib.Omega.{arith}
-use lib.Dec.{lit<}
 use lib.IntN.{ℤ, pos, sub_ℕ, ◌-ℤ◌}
 use Rattle.analog.specs.Code.{limited}
 use Rattle.analog.specs.Fractions.{fraction, natural, inverse, ◌/ℚ◌, rounded_down, nearest}
@@ -40,4 +39,4 @@ limited_down a b c p =
 
 -- to the nearest and limited: with half the bottom more
 pub limited_nearest : (a b c : ℕ) (p : 0 < c) → limited (nearest (fraction (sub_ℕ a b) c p)) ≡ min ((a * 2 + c - b * 2) / (c * 2)) 65535
-limited_nearest a b c p = simp (times, one-mul c, plus) (limited_down (a * 2 + c) (b * 2) (c * 2) (mul-pos p (lit< tt)))
+limited_nearest a b c p = simp (times, one-mul c, plus) (limited_down (a * 2 + c) (b * 2) (c * 2) _)

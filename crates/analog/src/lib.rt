@@ -1,11 +1,13 @@
 // The analog arithmetic: the code of a voltage, its format, and the two-point correction.
+#![tactic(auto)]
+
 ghost use Rattle.std.specs.Prelude.{◌≡◌, ◌<◌};
 ghost use Rattle.analog.specs.Code.{gain_of, calibration_of, code_of, in_format};
 ghost use Rattle.analog.specs.Correction.{is_calibration, pair_usable, sums_possible, corrected_count, corrected_answer};
 ghost use Rattle.analog.specs.Machine.{raised_of, depth_of, factor_of, limited_quotient, nearest_count, CountFits, Correctable};
 
 // The answer of a call. The definitions number_of and value_of give document 01's number and value of each case.
-#[derive(Drop)]
+#[derive(Clone, Copy)]
 pub enum Answer {
     Accepted(u32),
     Refused(u8),

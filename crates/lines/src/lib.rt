@@ -1,4 +1,6 @@
 // The lines that the programs print: one for each call, or one for a refused trace; and one for a replay.
+#![tactic(auto)]
+
 ghost use Rattle.std.specs.Prelude.{[], ◌∷◌, ◌++◌, ◌≡◌, ◌+◌, ◌*◌, ◌≤◌, ◌<◌, length};
 ghost use Rattle.lines.specs.Parts.{pasted};
 ghost use Rattle.lines.specs.Text.{digit_of, digits_of, decimal_of, newline, line_of, refused_of, agree_of, differs_of, word_in, call_line, taken, taken_lines, Begins};

@@ -1,4 +1,6 @@
 // A load: a trace of calls made from a seed, the same on every machine.
+#![tactic(auto)]
+
 ghost use Rattle.std.specs.Prelude.{◌≡◌, [], map, ℕ, ◌+◌, ◌%◌, ◌≤◌, length};
 ghost use Rattle.pmc330_model.specs.Calls.{read, write, input, advance};
 ghost use Rattle.trace.specs.Fields.{bytes_of_fields};

@@ -8,7 +8,7 @@ use crate::fields;
 use pmc330_model::{Cycle, Registers};
 
 // What the registers say of a running cycle. Nothing of it changes while time passes, so a run from event to event works it out once.
-#[derive(Drop)]
+#[derive(Clone, Copy)]
 pub struct Plan {
     pub start: u8,
     // conversions in a pass
@@ -21,7 +21,7 @@ pub struct Plan {
 }
 
 // What changes of a board as time passes, but for its mailboxes.
-#[derive(Drop)]
+#[derive(Clone, Copy)]
 pub struct Scan {
     // a store has changed a mailbox or its count
     pub changed: bool,

@@ -7,7 +7,7 @@ ghost use Rattle.pmc330.specs.Steps.{core_in, words_with};
 use pmc330_model::{Board, Cycle, Registers};
 
 // The small record of a board, passed by value.
-#[derive(Drop)]
+#[derive(Clone, Copy)]
 pub struct Core {
     pub range: u8,
     pub registers: Registers,

@@ -1,5 +1,7 @@
 // The board's calls, by value. Each is equal to its definition in pmc330_model: a board is taken apart, the call made in place,
 // and the board put together.
+#![tactic(auto)]
+
 mod cycle;
 mod fields;
 mod held;

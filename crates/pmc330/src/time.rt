@@ -10,7 +10,7 @@ use crate::{cycle, fields, stores};
 use pmc330_model::{Cycle, Registers};
 
 // A board after some ticks, but for its arrays; the stores made in them, and whether one changed a mailbox or its count.
-#[derive(Drop)]
+#[derive(Clone, Copy)]
 pub struct Run {
     pub changed: bool,
     pub core: Core,

@@ -1,4 +1,6 @@
 // What C links: include/pmc330.h declares each function here and in `board`.
+#![tactic(auto)]
+
 mod board;
 
 ghost use Rattle.std.specs.Prelude.{◌≡◌, length};

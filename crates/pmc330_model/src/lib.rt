@@ -1,8 +1,10 @@
 // The records of the virtual board. Every definition about them is in specs/.
+#![tactic(auto)]
+
 use analog::Answer;
 
 // The registers as written, but for the gains.
-#[derive(Drop)]
+#[derive(Clone, Copy)]
 pub struct Registers {
     pub enable: bool,
     pub control: u16,
@@ -13,7 +15,7 @@ pub struct Registers {
 }
 
 // Where a cycle stands. Times are relative and bounded: a list of calls has no bound, and so no tick count fits.
-#[derive(Drop)]
+#[derive(Clone, Copy)]
 pub struct Cycle {
     // not idle
     pub running: bool,
@@ -32,7 +34,7 @@ pub struct Cycle {
 }
 
 // The board, passed by value.
-#[derive(Drop)]
+#[derive(Clone, Copy)]
 pub struct Board {
     pub range: u8,
     pub inputs: [i32; 32],
@@ -48,14 +50,14 @@ pub struct Board {
 }
 
 // What a call hands back.
-#[derive(Drop)]
+#[derive(Clone, Copy)]
 pub struct Reply {
     pub board: Board,
     pub answer: Answer,
 }
 
 // What a look hands back: a record of its own, to which request A11 adds the age.
-#[derive(Drop)]
+#[derive(Clone, Copy)]
 pub struct Look {
     pub board: Board,
     pub answer: Answer,

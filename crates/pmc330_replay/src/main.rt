@@ -1,5 +1,7 @@
 // Replays the recording on standard input, of which it takes the first 32,768 bytes, and prints one line: that all agree, the
 // first call whose answer is not the recorded one, or why the trace is refused.
+#![tactic(auto)]
+
 ghost use Rattle.std.specs.Prelude.{◌≤◌, ◌≡◌, length, take};
 
 use trace::Replayed;

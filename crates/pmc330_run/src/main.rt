@@ -1,4 +1,6 @@
 // Plays the trace on standard input, of which it takes the first 32,768 bytes, and prints a line for each call, or one line for a refused trace.
+#![tactic(auto)]
+
 
 // Prints what the player returned: 256 times the calls that it answered, and a number that is not 0 where it refused the trace.
 fn print(text: &mut [u8], answers: &[u8], res: u64) {

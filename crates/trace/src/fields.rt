@@ -6,7 +6,7 @@ ghost use Rattle.trace.specs.Fields.{tag_of, size_of, is_whole, is_heading, is_l
 ghost use Rattle.trace.specs.Machine.{strays_in, walked, check_of};
 
 // What the check of a trace finds: why it is refused, or how many calls it has.
-#[derive(Drop)]
+#[derive(Clone, Copy)]
 pub enum Checked {
     Refused(u8),
     Calls(usize),

@@ -1,4 +1,6 @@
 // The trace player: a trace's calls, made on a new board, and their answers in the lent buffer, or compared with recorded ones.
+#![tactic(auto)]
+
 mod calls;
 mod fields;
 
@@ -14,7 +16,7 @@ use fields::Checked;
 use pmc330::lent;
 
 // What a replay of a trace finds.
-#[derive(Drop)]
+#[derive(Clone, Copy)]
 pub enum Replayed {
     // why the trace is refused
     Refused(u8),

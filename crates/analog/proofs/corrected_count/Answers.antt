@@ -1,0 +1,24 @@
+-- What `nearest_count` asks follows from the tables' bounds and the questions; the rest is `correction_law`.
+use mathlib.Core.Path.{sym, ◌∙◌}
+use Rattle.analog.proofs.CorrectionLaw.{correction_law}
+use Rattle.analog.proofs.corrected_count.Goals as goal
+
+pub returns : goal.returns
+returns c =
+    let args = c.args in
+    let asked = c.requires in
+    c.nearest_count.ensures
+    ∙ simp (
+      c.wide-3.ensures,
+      c.wide-2.ensures,
+      c.factor_of.ensures,
+      c.wide-span.ensures,
+      c.depth_of.ensures,
+      c.wide.ensures,
+      c.calibration-2.ensures,
+      c.wide-low_voltage.ensures,
+      c.calibration.ensures,
+      c.gain_of-g.ensures,
+    )
+    (sym
+    (correction_law args.range args.gain args.high args.low args.high_sum args.low_sum args.raw asked.voltages asked.sums))
