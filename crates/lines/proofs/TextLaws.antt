@@ -3,7 +3,7 @@ use mathlib.Core.Bool.{Bool, true, false}
 use mathlib.Core.List.{List, [], ◌∷◌, ◌++◌}
 use mathlib.Core.Path.{◌≡◌, refl, sym, ap, ◌∙◌}
 use Prim.Native.Nat.{ℕ, zero, suc, ◌+◌, ◌/◌, ◌%◌, ◌^◌, ◌≤◌, ◌<◌}
-use native.Mathlib.Nat.{add_zero, add-suc, mod-eq_of_lt, pow-suc}
+use native.Mathlib.Nat.{add-zero, add-suc, mod-eq_of_lt, pow-suc}
 use native.Mathlib.Omega.{arith}
 use lib.Dec.{ltb}
 use lib.ListN.{length, length-append}
@@ -14,7 +14,7 @@ abbrev last_digit : ℕ → List ℕ
 last_digit n = digit_of (n % 10) ∷ []
 
 length_last : (l : List ℕ) (a : ℕ) → length (l ++ (a ∷ [])) ≡ suc (length l)
-length_last l a = length-append l (a ∷ []) ∙ add-suc (length l) 0 ∙ ap suc (add_zero (length l))
+length_last l a = length-append l (a ∷ []) ∙ add-suc (length l) 0 ∙ ap suc (add-zero (length l))
 
 pub length_digits : (base count number : ℕ) → length (digits_of base count number) ≡ count
 unfolding digits_of

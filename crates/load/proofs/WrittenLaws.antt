@@ -2,7 +2,7 @@
 use mathlib.Core.List.{List, [], ◌++◌, append_assoc, append-nil, map}
 use mathlib.Core.Path.{◌≡◌, refl, sym, ap, ap₂, ◌∙◌}
 use Prim.Native.Nat.{ℕ, zero, suc, ◌+◌, ◌-◌, ◌≤◌, ◌<◌}
-use native.Mathlib.Nat.{add_zero}
+use native.Mathlib.Nat.{add-zero}
 use native.Mathlib.Omega.{arith}
 use lib.ListN.{length, take, drop, length-append, length-drop, drop_of_length-le, take-append-drop}
 use lib.Seq.{take-length, take_all, take_at, drop-append-add, drop-drop, length-take-le}
@@ -35,7 +35,7 @@ written_length out at part room =
 
 written_none : (out : List ℕ) (at : ℕ) → written out at [] ≡ out
 written_none out at =
-    ap₂ ◌++◌ (append-nil (take at out)) (ap (λ (n : ℕ). drop n out) (add_zero at)) ∙ take-append-drop at out
+    ap₂ ◌++◌ (append-nil (take at out)) (ap (λ (n : ℕ). drop n out) (add-zero at)) ∙ take-append-drop at out
 
 pub written_more :
     (out : List ℕ) (at : ℕ) (part next : List ℕ) → at + length part ≤ length out

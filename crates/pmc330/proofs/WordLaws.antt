@@ -4,7 +4,7 @@ use mathlib.Core.Bool.{Bool, true, false, cond, ◌||◌}
 use mathlib.Core.List.{List, [], ◌∷◌}
 use mathlib.Core.Path.{◌≡◌, refl, sym, ◌∙◌}
 use Prim.Native.Nat.{ℕ, zero, suc, ◌+◌, ◌-◌, ◌*◌, ◌/◌, ◌%◌, ◌^◌, ◌≤◌, ◌<◌}
-use native.Mathlib.Nat.{add_zero, zero-add, add-suc, suc-add, le_of_suc-le-suc, le_trans, mul-le-mul_left, mul-le-mul_right, mul_assoc, pow-zero, pow-suc, pow-le-pow_right, div-one, div-div-eq-div-mul}
+use native.Mathlib.Nat.{add-zero, zero-add, add-suc, suc-add, le_of_suc-le-suc, le_trans, mul-le-mul_left, mul-le-mul_right, mul_assoc, pow-zero, pow-suc, pow-le-pow_right, div-one, div-div-eq-div-mul}
 use native.Mathlib.Numerals.{add-one}
 use native.Mathlib.Omega.{arith}
 use lib.Dec.{eqb, ltb}
@@ -26,7 +26,7 @@ each_at :
     (P : ℕ → Register → Type 0) (xs : List Register) (n : ℕ) → Each P n xs → (k : ℕ) → k < length xs
     → P (n + k) (get_or xs k unmapped)
 each_at P [] n all k h = absurd (omega arith)
-each_at P (x ∷ xs) n all zero h = rw (add_zero n) all.0
+each_at P (x ∷ xs) n all zero h = rw (add-zero n) all.0
 each_at P (x ∷ xs) n all (suc k) h =
     rw (add-suc n k, ← suc-add n k) (each_at P xs (suc n) all.1 k (le_of_suc-le-suc h))
 

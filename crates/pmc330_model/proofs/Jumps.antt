@@ -3,7 +3,7 @@ use mathlib.Core.Bool.{Bool, true, false, cond, ◌&&◌}
 use mathlib.Core.Logic.{◌⊎◌, inl, inr, ⊎_elim}
 use mathlib.Core.Path.{◌≡◌, refl, sym, ap, ap₂, ◌∙◌}
 use Prim.Native.Nat.{ℕ, zero, suc, ◌+◌, ◌-◌, ◌*◌, ◌≤◌, ◌<◌}
-use native.Mathlib.Nat.{add_zero, zero-add, sub-zero, zero-mul, suc-mul}
+use native.Mathlib.Nat.{add-zero, zero-add, sub-zero, zero-mul, suc-mul}
 use native.Mathlib.Omega.{arith}
 use lib.Dec.{eqb}
 use borrow.Author.Tests.{eq-eqb, ne_eqb}
@@ -101,7 +101,7 @@ pub jump_stores : (n : ℕ) (b : Board) → b.cycle.running ≡ true → is_time
 unfolding stores_in
 jump_stores zero b running timed some lead lag = absurd (omega arith)
 jump_stores (suc zero) b running timed some lead lag =
-    add_zero (cond (is_store_due b) 1 0) ∙ ap (λ (due : Bool). cond due 1 0) (due_is b running true timed b.cycle.lag)
+    add-zero (cond (is_store_due b) 1 0) ∙ ap (λ (due : Bool). cond due 1 0) (due_is b running true timed b.cycle.lag)
 jump_stores (suc (suc n)) b running timed some lead lag =
     let none-due : is_store_due b ≡ false = due_is b running true timed b.cycle.lag ∙ not_due n b.cycle.lag lag in
     ap₂ (λ (due : Bool) (next : Board). cond due 1 0 + stores_in (suc n) next) none-due

@@ -10,7 +10,7 @@ use Rattle.analog.specs.declared.Answer.TheVariants.{Accepted}
 use Rattle.analog.proofs.AnswerLaws.{accepted_none}
 use Rattle.pmc330_model.specs.Map.{Register, mailbox, class_of}
 use Rattle.pmc330_model.specs.Words.{read_word, look_value, read_bytes}
-use Rattle.pmc330_model.specs.Calls.{Call, read, look, clear}
+use Rattle.pmc330_model.specs.Calls.{read, look, clear}
 use Rattle.pmc330_model.specs.Questions.{slot_questions, call_questions}
 use Rattle.pmc330_model.specs.Board.{view_of, after_read, after_clear, after_call, value_of_call, questions_of, board_call, look_call, clear_call, board_after}
 use Rattle.pmc330_model.specs.Logbook.{Logbook, logbook_view, happens, logbook_questions, logged}

@@ -4,7 +4,7 @@ use mathlib.Core.List.{List, [], ◌∷◌}
 use mathlib.Core.Logic.{◌⊎◌, inl, inr, ⊎_elim}
 use mathlib.Core.Path.{◌≡◌, refl, sym, ap, ap₂, subst, ◌∙◌}
 use Prim.Native.Nat.{ℕ, zero, suc, ◌+◌, ◌-◌, ◌*◌, ◌≤◌, ◌<◌}
-use native.Mathlib.Nat.{add_zero, zero-add, zero-mul, suc-mul, mul-le-mul}
+use native.Mathlib.Nat.{add-zero, zero-add, zero-mul, suc-mul, mul-le-mul}
 use native.Mathlib.Omega.{arith}
 use lib.Dec.{eqb, ltb, leb}
 use borrow.Author.Tests.{eq-eqb, ne_eqb, le-leb, lt-leb, lt-ltb, le-ltb, ltb-true}
@@ -337,7 +337,7 @@ crowded_last :
     → pass_length b.registers - (b.cycle.index + 1) ≡ rest → First b (b.cycle.lead + (64 + rest * interval b.registers))
 unfolding begun
 crowded_last zero b h crowded single is =
-    subst (First b) (ap (λ (n : ℕ). b.cycle.lead + n) (sym (ap (λ (n : ℕ). 64 + n) (zero-mul (interval b.registers)) ∙ add_zero 64)))
+    subst (First b) (ap (λ (n : ℕ). b.cycle.lead + n) (sym (ap (λ (n : ℕ). 64 + n) (zero-mul (interval b.registers)) ∙ add-zero 64)))
     (stored_next b h (inl (last_lead b.registers (ends_at b) single (le-leb (pass_length b.registers) (b.cycle.index + 1) (omega (arith, is))))))
 crowded_last (suc rest) b h crowded single is =
     let ends : ends_at b ≡ false = lt-leb (pass_length b.registers) (b.cycle.index + 1) (omega (arith, is)) in

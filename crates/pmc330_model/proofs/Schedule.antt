@@ -3,7 +3,7 @@ use mathlib.Core.Bool.{Bool, true, false, not, cond}
 use mathlib.Core.Logic.{◌⊎◌, inl, inr, ⊎_elim}
 use mathlib.Core.Path.{◌≡◌, refl}
 use Prim.Native.Nat.{ℕ, zero, suc, ◌+◌, ◌-◌, ◌*◌, ◌/◌, ◌%◌, ◌≤◌, ◌<◌}
-use native.Mathlib.Nat.{eq-or-lt_of_le, div-add-mod', mod-lt, add_zero, suc-add, add-suc, suc-mul}
+use native.Mathlib.Nat.{eq-or-lt_of_le, div-add-mod', mod-lt, add-zero, suc-add, add-suc, suc-mul}
 use native.Mathlib.Omega.{arith}
 use lib.Arith.{digits_div, digits_mod}
 use lib.Dec.{eqb}
@@ -100,7 +100,7 @@ module _ (r : Registers) where
     apart k = rw (step k) (omega (arith, step_long (ends_pass r k)))
 
     pub ordered : (i d : ℕ) → begins_at r i + 64 ≤ begins_at r (suc (i + d))
-    ordered i zero = rw (add_zero i) (apart i)
+    ordered i zero = rw (add-zero i) (apart i)
     ordered i (suc d) = rw (add-suc i d) (omega (arith, ordered i d, apart (suc (i + d))))
 
     pub before : (i j : ℕ) → i < j → begins_at r i + 64 ≤ begins_at r j
@@ -123,7 +123,7 @@ module _ (test : ℕ → Bool) where
   pub search_at : (n k i : ℕ) → i < n → test (k + i) ≡ true → ((j : ℕ) → k ≤ j → j < k + i → test j ≡ false) → first_from test n k ≡ conversion (k + i)
   unfolding first_from
   search_at zero k i room hit fail = absurd (omega arith)
-  search_at (suc n) k zero room hit fail = rw (add_zero k, rw (add_zero k) at hit) refl
+  search_at (suc n) k zero room hit fail = rw (add-zero k, rw (add-zero k) at hit) refl
   search_at (suc n) k (suc i) room hit fail =
       rw (fail k (omega arith) (omega arith), add-suc k i, ← suc-add k i)
       (search_at n (suc k) i (omega arith) (rw (add-suc k i, ← suc-add k i) at hit) (λ j low high. fail j (omega arith) (omega arith)))

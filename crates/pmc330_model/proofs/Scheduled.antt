@@ -1,10 +1,10 @@
 -- The stores of a logbook are those of the schedule, and its ticks those of the accepted advances.
 use mathlib.Core.Bool.{Bool, true, false, not, cond, ◌&&◌}
 use mathlib.Core.List.{List, [], ◌∷◌}
-use mathlib.Core.Logic.{◌⊎◌, ⊎_elim}
+use mathlib.Core.Logic.{⊎_elim}
 use mathlib.Core.Path.{◌≡◌, refl, sym, ap, ap₂, subst, ◌∙◌}
 use Prim.Native.Nat.{ℕ, zero, suc, ◌+◌, ◌-◌, ◌≤◌, ◌<◌}
-use native.Mathlib.Nat.{add_zero, add-suc, suc-add}
+use native.Mathlib.Nat.{add-zero, add-suc, suc-add}
 use native.Mathlib.Omega.{arith}
 use lib.Dec.{eqb, leb}
 use lib.ListN.{length}
@@ -201,14 +201,14 @@ module _ (l : Logbook) (T : ℕ) (triggers : List ℕ) (running : l.cycle ≡ si
       tick_taken l (due_after 64 r (suc l.tick) l.cycle) (conversion k) refl
       (ap (λ (t : Bool). due_after 0 r (suc l.tick) (cond t idle l.cycle))
       (goes_on k scheduled at (due_after 64 r (suc l.tick) l.cycle) refl)
-      ∙ found_now 0 k scheduled (add_zero (T + begins_at r k) ∙ at))
+      ∙ found_now 0 k scheduled (add-zero (T + begins_at r k) ∙ at))
 
   unbegun : ((k : ℕ) → is_scheduled r k ≡ true → T + begins_at r k ≡ suc l.tick → ⊥) → (tick_passes l).taken ≡ l.taken
   unbegun fails = tick_taken l (due_after 64 r (suc l.tick) l.cycle) none refl (go (ends_cycle r (due_after 64 r (suc l.tick) l.cycle)))
     where
       go : (ends : Bool) → due_after 0 r (suc l.tick) (cond ends idle l.cycle) ≡ none
       go true = idle_due 0 r (suc l.tick) idle refl
-      go false = none_now 0 (λ k scheduled at. fails k scheduled (sym (add_zero (T + begins_at r k)) ∙ at))
+      go false = none_now 0 (λ k scheduled at. fails k scheduled (sym (add-zero (T + begins_at r k)) ∙ at))
 
   in_cycle : InCycle l T triggers
   in_cycle =
@@ -550,7 +550,7 @@ timeless_tick l (clear slot) h = refl
 
 ticks_passed : (n : ℕ) (l : Logbook) → (ticks_pass n l).tick ≡ l.tick + n
 unfolding ticks_pass
-ticks_passed zero l = sym (add_zero l.tick)
+ticks_passed zero l = sym (add-zero l.tick)
 ticks_passed (suc n) l = ticks_passed n (tick_passes l) ∙ rw (tick_is l _ refl).tick (suc-add l.tick n ∙ sym (add-suc l.tick n))
 
 advance_passed : (l : Logbook) (n : ℕ) → all_met (logbook_questions l (advance n)) ≡ true → logged l (advance n) ≡ ticks_pass n l

@@ -3,8 +3,8 @@ use mathlib.Core.Bool.{Bool, true, false, not, cond, ◌&&◌, ◌||◌}
 use mathlib.Core.List.{List, [], ◌∷◌}
 use mathlib.Core.Logic.{◌⊎◌, inl, inr}
 use mathlib.Core.Path.{◌≡◌, refl, sym, ap, ◌∙◌}
-use Prim.Native.Nat.{ℕ, zero, suc, ◌+◌, ◌-◌, ◌*◌, ◌/◌, ◌%◌, ◌≤◌}
-use native.Mathlib.Nat.{add_zero, one-mul, zero-mod, zero-div, zero-mul}
+use Prim.Native.Nat.{ℕ, zero, suc, ◌+◌, ◌*◌, ◌/◌, ◌%◌, ◌≤◌}
+use native.Mathlib.Nat.{add-zero, one-mul, zero-mod, zero-div, zero-mul}
 use native.Mathlib.Omega.{arith}
 use lib.Dec.{eqb, ltb, leb}
 use lib.ListN.{replicate}
@@ -141,7 +141,7 @@ module _ (b : Board) (tick : ℕ) (cycle : Running) (events : List Event) (agree
   burst_agrees : is_timed b.registers ≡ true → is_uniform b.registers ≡ false → Agrees (begun fresh) tick (since tick []) (cycle_start ∷ events)
   unfolding begun
   burst_agrees timed other =
-      let now : tick + begins_at b.registers 0 ≡ tick = ap (λ (n : ℕ). tick + n) (first_burst b.registers other) ∙ add_zero tick in
+      let now : tick + begins_at b.registers 0 ≡ tick = ap (λ (n : ℕ). tick + n) (first_burst b.registers other) ∙ add-zero tick in
       record {
         memory = fresh_memory;
         held = begun_held fresh;

@@ -4,11 +4,11 @@ use mathlib.Core.List.{List}
 use mathlib.Core.Logic.{◌⊎◌, inl, inr, ⊎_elim}
 use mathlib.Core.Path.{◌≡◌, refl, sym, ap, ap₂, subst, ◌∙◌}
 use Prim.Native.Nat.{ℕ, suc, ◌+◌, ◌-◌, ◌%◌, ◌≤◌, ◌<◌}
-use native.Mathlib.Nat.{add_zero, eq-or-lt_of_le}
+use native.Mathlib.Nat.{add-zero, eq-or-lt_of_le}
 use native.Mathlib.Omega.{arith}
 use lib.Dec.{eqb}
 use borrow.Author.Tests.{eq-eqb, ne_eqb}
-use Rattle.pmc330_model.specs.Schedule.{pass_length, is_single, is_timed, in_odd_pass, ends_pass, begins_at, is_scheduled, none}
+use Rattle.pmc330_model.specs.Schedule.{pass_length, is_single, is_timed, in_odd_pass, ends_pass, begins_at, is_scheduled}
 use Rattle.pmc330_model.specs.Board.{begun, begun_if_due, lead_after}
 use Rattle.pmc330_model.specs.Logbook.{Event, since, if_due, begins, begins_due}
 use Rattle.pmc330_model.specs.declared.Registers.{Registers}
@@ -66,7 +66,7 @@ module _ (s : Board) (startable : Startable s.registers) (T tick k : ℕ) (trigg
   begins_now next one =
       let now : T + begins_at s.registers k ≡ suc tick = omega (arith, next.due) in (
         ap (λ due. if_due due begins (book_of s (suc tick) (since T triggers) events))
-            (due_found s.registers startable T 0 (suc tick) k triggers next.scheduled (add_zero _ ∙ now))
+            (due_found s.registers startable T 0 (suc tick) k triggers next.scheduled (add-zero _ ∙ now))
             ∙ begins_is s startable k between.index (suc tick) (since T triggers) events,
         record {
           memory = memory;

@@ -4,7 +4,7 @@ use mathlib.Core.List.{List, [], ◌∷◌, ◌++◌}
 use mathlib.Core.Logic.{◌⊎◌, inl, inr, ⊎_elim}
 use mathlib.Core.Path.{◌≡◌, refl, sym, ap, subst, ◌∙◌}
 use Prim.Native.Nat.{ℕ, zero, suc, ◌+◌, ◌-◌, ◌*◌, ◌/◌, ◌%◌, ◌≤◌, ◌<◌}
-use native.Mathlib.Nat.{eq-or-lt_of_le, add_zero, one-mul, mul-pos, mod-lt, mod-eq_of_lt, div-add-mod'}
+use native.Mathlib.Nat.{eq-or-lt_of_le, add-zero, one-mul, mul-pos, mod-lt, mod-eq_of_lt, div-add-mod'}
 use native.Mathlib.Omega.{arith}
 use lib.Dec.{eqb, ltb, leb}
 use borrow.Author.Tests.{eq-eqb, eqb-true, lt-ltb, le-leb, leb-true, not-true}
@@ -438,7 +438,7 @@ waiting_time c runs t channel span scanned =
 pub burst_waiting_time : EveryBurstWait
 burst_waiting_time c runs burst t channel span scanned =
     let r : Registers = registers_of c in
-    let none : pass_ticks r + 0 ≡ pass_ticks r = add_zero (pass_ticks r) in
+    let none : pass_ticks r + 0 ≡ pass_ticks r = add-zero (pass_ticks r) in
     let first = stored_within r (burst_not_uniform r burst) (channel - r.start) (place_inside c runs t channel scanned) in
     rw none at
     (channel_stores c runs t channel scanned 0 (rw none span) (rw none first))

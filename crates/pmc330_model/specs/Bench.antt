@@ -8,7 +8,7 @@ use Rattle.pmc330_model.specs.Schedule.{interval}
 use Rattle.pmc330_model.specs.Calls.{Call, read, write, advance}
 use Rattle.pmc330_model.specs.Board.{board_after, answers_of}
 
-infix 68 ◌gives◌ ◌isRefusedBy◌
+infix 68 ◌gives◌ ◌is_refused_by◌
 -- a call and the answer that it is to have
 pub record Step : Type 0 where
   pub call : Call
@@ -17,7 +17,7 @@ pub record Step : Type 0 where
 abbrev pub ◌gives◌ : Call → (value : ℕ) → Step
 call gives value = record { call = call; answer = Accepted value }
 
-abbrev pub ◌isRefusedBy◌ : Call → (number : ℕ) → Step
+abbrev pub ◌is_refused_by◌ : Call → (number : ℕ) → Step
 call is_refused_by number = record { call = call; answer = Refused number }
 
 abbrev pub calls_of : List Step → List Call

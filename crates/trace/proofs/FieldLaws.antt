@@ -4,7 +4,7 @@ use mathlib.Core.List.{List, [], ◌∷◌}
 use mathlib.Core.Logic.{⊎_elim}
 use mathlib.Core.Path.{◌≡◌, refl, sym, ap, ap₂, ◌∙◌}
 use Prim.Native.Nat.{ℕ, zero, suc, ◌+◌, ◌-◌, ◌*◌, ◌≤◌, ◌<◌}
-use native.Mathlib.Nat.{add_zero}
+use native.Mathlib.Nat.{add-zero}
 use native.Mathlib.Numerals.{add-one}
 use native.Mathlib.Omega.{arith}
 use lib.Dec.{eqb, ltb, leb}
@@ -188,7 +188,7 @@ shorter size left long =
     (lt_or_le left (3 + size))
 
 pub tag_at : (trace : List ℕ) (at : ℕ) → tag_of (drop at trace) ≡ get_or trace at 0
-tag_at trace at = get_or-drop at trace 0 0 ∙ ap (λ (n : ℕ). get_or trace n 0) (add_zero at)
+tag_at trace at = get_or-drop at trace 0 0 ∙ ap (λ (n : ℕ). get_or trace n 0) (add-zero at)
 
 -- what a whole field has
 pub whole_parts : (bytes : List ℕ) → is_whole bytes ≡ true → (3 ≤ length bytes) × (size_of bytes ≡ length_of (tag_of bytes)) × (3 + size_of bytes ≤ length bytes)

@@ -4,7 +4,7 @@ use mathlib.Core.List.{List, [], ◌∷◌, ◌++◌, map, append_assoc, append-
 use mathlib.Core.Logic.{◌⊎◌, inl, inr, ⊎_elim}
 use mathlib.Core.Path.{◌≡◌, refl, sym, ap, ap₂, subst, ◌∙◌}
 use Prim.Native.Nat.{ℕ, suc, ◌+◌, ◌-◌, ◌≤◌, ◌<◌}
-use native.Mathlib.Nat.{add_zero}
+use native.Mathlib.Nat.{add-zero}
 use native.Mathlib.Numerals.{add-one}
 use native.Mathlib.Omega.{arith}
 use lib.ListN.{length, get_or, take, drop, length-append}
@@ -49,7 +49,7 @@ module _ (answers : List Answer) where
       (index : ℕ) (xs ys : List Field)
       → comparisons_from index answers (xs ++ ys) ≡ comparisons_from index answers xs ++ comparisons_from (index + length (calls_among xs)) answers ys
   unfolding comparisons_from call_fields
-  comparisons_append index [] ys = ap (λ (n : ℕ). comparisons_from n answers ys) (sym (add_zero index))
+  comparisons_append index [] ys = ap (λ (n : ℕ). comparisons_from n answers ys) (sym (add-zero index))
   comparisons_append index (x ∷ xs) ys =
       go (is_call_tag x.tag) (calls_counted x xs) (comparisons_append (index + 1) xs ys) (comparisons_append index xs ys)
     where
@@ -99,7 +99,7 @@ all_equal (next ∷ later) = is_equal next.answer next.body && all_equal later
 
 pub difference_after : (count : ℕ) (xs ys : List Comparison) → all_equal xs ≡ true → first_difference count (xs ++ ys) ≡ first_difference (count + length xs) ys
 unfolding first_difference
-difference_after count [] ys equal = ap (λ (n : ℕ). first_difference n ys) (sym (add_zero count))
+difference_after count [] ys equal = ap (λ (n : ℕ). first_difference n ys) (sym (add-zero count))
 difference_after count (x ∷ xs) ys equal =
     let same : count + 1 + length xs ≡ count + suc (length xs) = omega arith in
     rw (and_left (is_equal x.answer x.body) (all_equal xs) equal)
@@ -196,7 +196,7 @@ module _ (range : ℕ) (fields : List Field) where
             let after_call : is_call_tag before ≡ true =
             sym (ap (λ (t : Bool). cond t (is_call_tag before) true) answer) ∙ and_left (cond (is_answer_tag field.tag) (is_call_tag before) true) (answers_follow field.tag (part ++ rest)) follow in
             ap₂ ◌&&◌ (is_equal_lem done (part ++ rest) field place (ends after_call) answer (omega (arith, most)))
-            (sym (ap (λ (k : ℕ). all_equal (comparisons_from k answers part)) (index ∙ add_zero n)) ∙ rest')
+            (sym (ap (λ (k : ℕ). all_equal (comparisons_from k answers part)) (index ∙ add-zero n)) ∙ rest')
 
   -- what the comparisons after the fields before a recorded call find
   pub compared_next :

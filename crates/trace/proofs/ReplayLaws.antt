@@ -3,7 +3,7 @@ use mathlib.Core.Bool.{Bool, true, false, cond}
 use mathlib.Core.List.{List, [], ◌∷◌}
 use mathlib.Core.Path.{◌≡◌, refl, sym, ap, ◌∙◌}
 use Prim.Native.Nat.{ℕ, ◌+◌, ◌≤◌, ◌<◌}
-use native.Mathlib.Nat.{add_zero}
+use native.Mathlib.Nat.{add-zero}
 use native.Mathlib.Numerals.{add-one}
 use native.Mathlib.Omega.{arith}
 use lib.ListN.{length, get_or, drop, length-drop}
@@ -60,7 +60,7 @@ next_answer : (answers later : List Answer) (answer : Answer) (index : ℕ) → 
 next_answer answers later answer index e = (
   ap (λ (l : List Answer). get_or l 0 (Accepted 0)) e
       ∙ get_or-drop index answers 0 (Accepted 0)
-      ∙ ap (λ (n : ℕ). get_or answers n (Accepted 0)) (add_zero index)
+      ∙ ap (λ (n : ℕ). get_or answers n (Accepted 0)) (add-zero index)
       ∙ sym (ap (answer_to answers) (add-one index)),
   ap (drop 1) e ∙ drop-drop 1 index answers,
 )

@@ -4,7 +4,7 @@ use mathlib.Core.List.{List, [], ◌∷◌, ◌++◌, append_assoc}
 use mathlib.Core.Logic.{◌⊎◌, inl, inr}
 use mathlib.Core.Path.{◌≡◌, refl, sym, ap, ap₂, subst, ◌∙◌}
 use Prim.Native.Nat.{ℕ, zero, suc, ◌+◌, ◌-◌, ◌*◌, ◌≤◌, ◌<◌}
-use native.Mathlib.Nat.{add_zero, add-suc, not-suc-le-zero}
+use native.Mathlib.Nat.{add-zero, add-suc, not-suc-le-zero}
 use native.Mathlib.Omega.{arith}
 use lib.Dec.{eqb, leb}
 use borrow.Author.Tests.{leb-true, leb-false, eqb-true}
@@ -76,7 +76,7 @@ slides n codes k full h =
 -- codes of 16 bits: no window of N has a greater sum than N of the greatest
 module _ (codes : List ℕ) (most : (i : ℕ) → get_or codes i 0 < 0x10000) where
   first_most : (j m : ℕ) → sum_of (take (j + m) codes) ≤ sum_of (take j codes) + 65_535 * m
-  first_most j zero = rw (add_zero j) (omega arith)
+  first_most j zero = rw (add-zero j) (omega arith)
   first_most j (suc m) =
       rw (add-suc j m)
       (omega (arith, first_most j m, sum_next (j + m) codes, most (j + m)))
@@ -259,11 +259,11 @@ pub past_sums :
     → get_or (sums_after n codes (length codes) ++ drop (length codes) output) k 0 ≡ get_or output k 0
 past_sums n codes k output h =
     let all = sums_after n codes (length codes) ++ drop (length codes) output in
-    ap (λ (i : ℕ). get_or all i 0) (sym (add_zero k))
+    ap (λ (i : ℕ). get_or all i 0) (sym (add-zero k))
     ∙ sym (get_or-drop k all 0 0)
     ∙ ap (λ (l : List ℕ). get_or l 0 0) (past_drop n codes (length codes) k output h)
     ∙ get_or-drop k output 0 0
-    ∙ ap (λ (i : ℕ). get_or output i 0) (add_zero k)
+    ∙ ap (λ (i : ℕ). get_or output i 0) (add-zero k)
 
 -- "N, or the codes so far where these are fewer" is how many codes the window has
 pub held_is : (n : ℕ) (codes : List ℕ) (count : ℕ) → count ≤ length codes → length (window_after n codes count) ≡ held_after n count
