@@ -1,5 +1,5 @@
 -- What the code's own steps promise. Nothing that a caller may cite stands here.
-use Rattle.std.specs.Prelude.{ℕ, ◌+◌, ◌-◌, ◌%◌, ◌≤◌, min, Bool, true, false, cond, not, ◌&&◌, ◌||◌, List, [], ◌≡◌, eqb, leb, ℤ, get_or, set}
+use Rattle.std.specs.Prelude.{ℕ, ◌+◌, ◌%◌, ◌≤◌, min, Bool, true, false, cond, not, ◌&&◌, ◌||◌, List, [], ◌≡◌, eqb, leb, ℤ, get_or, set}
 use Rattle.pmc330_model.specs.Words.{View}
 use Rattle.pmc330_model.specs.Lent.{flag_at, byte_at, half_at, registers_in, cycle_in, words_of}
 use Rattle.pmc330_model.specs.Schedule.{pass_length, is_differential, is_single, code_at, formatted_by, is_interrupting}
