@@ -23,6 +23,7 @@ fn put_byte(out: &mut [u8], at: usize, byte: u8)
 }
 
 // The last digits of a number to a base, from the last one back.
+#[tactic(auto, using(crate::proofs::PartLaws::pasting_end))]
 fn put_digits(out: &mut [u8], at: usize, count: usize, base: u32, number: u32)
     requires { (at + count ≤ length out.old) × (1 ≤ base) × (base ≤ 16) }
     ensures { out.new ≡ pasted out.old at (digits_of base count number) }
@@ -38,6 +39,7 @@ fn put_digits(out: &mut [u8], at: usize, count: usize, base: u32, number: u32)
 }
 
 // How many decimal digits a number has.
+#[tactic(auto, using(crate::proofs::TextLaws::length_some, crate::proofs::TextLaws::length_word, crate::proofs::TextLaws::length_large, crate::proofs::TextLaws::length_small))]
 fn decimal_count(number: u32) -> usize
     ensures { (result ≡ length (decimal_of number)) × (result ≤ 10) }
 {
@@ -51,6 +53,7 @@ fn decimal_count(number: u32) -> usize
 }
 
 // The place after the digits is returned.
+#[tactic(auto, using(crate::proofs::TextLaws::decimal_digits))]
 fn put_decimal(out: &mut [u8], at: usize, number: u32) -> usize
     requires { at + 10 ≤ length out.old }
     ensures { (result ≡ at + length (decimal_of number)) × (result ≤ at + 10) × (out.new ≡ pasted out.old at (decimal_of number)) }
@@ -102,6 +105,7 @@ fn put_numbered(out: &mut [u8], word: &[u8], number: u32) -> usize
 }
 
 // A refused trace's line, likewise.
+#[tactic(auto, unfolding(crate::specs::Text::refused_of))]
 pub fn put_refused(out: &mut [u8], number: u8) -> usize
     ensures { Begins (taken (refused_of number) out.old) out.old out.new result }
 {
@@ -109,6 +113,7 @@ pub fn put_refused(out: &mut [u8], number: u8) -> usize
 }
 
 // The line of a replay in which all agree, likewise.
+#[tactic(auto, unfolding(crate::specs::Text::agree_of))]
 pub fn put_agree(out: &mut [u8], count: u32) -> usize
     ensures { Begins (taken (agree_of count) out.old) out.old out.new result }
 {

@@ -62,6 +62,7 @@ fn slide(full: usize, filled: u32, codes: &[u16], sums: &mut [u32])
 
 // After each code the sum of the last `length` ones, or of all so far where these are fewer, put at the code's place.
 // Accepted with how many codes the last sum holds; refused with 21 or 20, `sums` stays.
+#[tactic(auto, unfolding(crate::specs::Window::window_answer, crate::specs::Window::window_output, analog::specs::Answers::answered, analog::specs::Answers::first_no, analog::specs::Answers::all_met))]
 pub fn window_sums(length: u32, codes: &[u16], sums: &mut [u32]) -> Answer
     ensures answer { result ≡ window_answer length codes.now sums.old }
     ensures output { sums.new ≡ window_output length codes.now sums.old }
