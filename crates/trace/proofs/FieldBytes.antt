@@ -3,7 +3,7 @@ use mathlib.Core.Bool.{Bool, true, false, cond, ◌&&◌}
 use mathlib.Core.List.{List, [], ◌∷◌, ◌++◌}
 use mathlib.Core.Logic.{⊎_elim}
 use mathlib.Core.Path.{◌≡◌, refl, sym, ap, ap₂, subst, ◌∙◌}
-use Prim.Native.Nat.{ℕ, zero, suc, ◌+◌, ◌-◌, ◌*◌, ◌/◌, ◌%◌, ◌≤◌, ◌<◌}
+use Prim.Native.Nat.{ℕ, zero, suc, ◌+◌, ◌*◌, ◌/◌, ◌%◌, ◌≤◌, ◌<◌}
 use native.Mathlib.Omega.{arith}
 use lib.Dec.{eqb}
 use lib.ListN.{length, take, drop, length-append, length-drop, take-append-drop}
@@ -11,7 +11,7 @@ use lib.Seq.{drop-drop, length-take-le, take_at, drop_at}
 use borrow.Author.Tests.{le-leb, eq-eqb}
 use Rattle.pmc330_model.proofs.Cases.{lt_or_le, and_left, and_right}
 use Rattle.trace.specs.Grammar.{length_of, is_call_tag, low_first}
-use Rattle.trace.specs.Fields.{Field, field_bytes, bytes_of_fields, tag_of, size_of, body_of, first_field, after_field, is_whole, Fields, damaged, whole, in_front, is_later_tag, is_later_field, fields_in, fields_of, listed, call_fields}
+use Rattle.trace.specs.Fields.{Field, field_bytes, bytes_of_fields, tag_of, size_of, body_of, first_field, after_field, is_whole, damaged, whole, in_front, is_later_tag, is_later_field, fields_in, fields_of, listed, call_fields}
 use Rattle.trace.proofs.FieldLaws.{length_small, whole_parts, front, empty, one_turn, fields_end, fields_step}
 
 -- ---- fields that can stand in a trace

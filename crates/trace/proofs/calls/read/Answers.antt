@@ -1,0 +1,20 @@
+-- By the board's promise, with the numbers of the body.
+use mathlib.Core.Path.{ap₂, ◌∙◌}
+use Rattle.pmc330_model.specs.Calls.{read}
+use Prim.Native.Nat.{ℕ}
+use Rattle.pmc330_model.specs.Board.{board_call}
+use Rattle.pmc330_model.specs.Lent.{board_in}
+use Rattle.trace.specs.Grammar.{call_of}
+use Rattle.trace.proofs.CallLaws.{replied}
+use Rattle.trace.proofs.calls.read.Goals as goal
+
+pub returns : goal.returns
+unfolding call_of
+returns c =
+    let a = c.args in
+    let b = board_in a.words.now a.inputs.now a.gains.now a.codes.now a.unread.now in
+    let r =
+    replied (ap₂ (λ (w o : ℕ). board_call b (read w o)) c.number-width.ensures c.number-offset.ensures)
+    (c.rebuilt.ensures ∙ c.read.ensures.answer)
+    c.read.ensures.board in
+    record { answer = r.0; board = r.1 }
