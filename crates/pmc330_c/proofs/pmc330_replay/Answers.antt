@@ -1,0 +1,13 @@
+-- Number, index and count of each case; the sum fits, since index and count are small.
+use borrow.Author.Rules.{rules}
+use mathlib.Core.Path.{◌≡◌, sym, ap, subst, ◌∙◌}
+use native.Mathlib.Omega.{arith}
+use Rattle.trace.specs.Replay.{replayed, replay_result}
+use Rattle.trace.specs.declared.Replayed.TheVariants.{Differs}
+use Rattle.trace.proofs.Replays.{Small, replay_small}
+use Rattle.pmc330_c.proofs.pmc330_replay.Goals as goal
+
+pub overflow_add-result : goal.overflow_add-result
+overflow_add-result c =
+    let small = subst (Small 5_592_405) (sym c.in-Differs.ensures) (replay_small c.args.trace.now) in
+    omega (arith, small.index, small.count)
