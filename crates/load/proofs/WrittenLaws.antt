@@ -5,7 +5,7 @@ use Prim.Native.Nat.{ℕ, zero, suc, ◌+◌, ◌-◌, ◌≤◌, ◌<◌}
 use native.Mathlib.Nat.{add-zero}
 use native.Mathlib.Omega.{arith}
 use lib.ListN.{length, take, drop, length-append, length-drop, drop_of_length-le, take-append-drop}
-use lib.Seq.{take-length, take_all, take_at, drop-append-add, drop-drop, length-take-le}
+use lib.Seq.{take_all, take_at, drop-append-add, drop-drop, length-take-le}
 use Rattle.trace.specs.Fields.{Field, field_bytes, bytes_of_fields}
 use Rattle.load.specs.Bits.{stepped}
 use Rattle.load.specs.Load.{call_from, load_calls, field_for}
@@ -14,11 +14,11 @@ use Rattle.load.specs.Machine.{bytes_from, Put, written}
 -- a field that is copied to the front of a buffer
 pub copied :
     (field : Field) (bytes before after : List ℕ) (count : ℕ) → bytes ≡ field_bytes field → count ≡ length bytes
-    → after ≡ take (length bytes) bytes ++ drop (length bytes) before → Put field before after count
+    → after ≡ bytes ++ drop (length bytes) before → Put field before after count
 copied field bytes before after count same counted e =
     record {
       counted = counted ∙ ap length same;
-      bytes = e ∙ ap₂ ◌++◌ (take-length bytes ∙ same) (ap (λ (n : ℕ). drop n before) (sym counted));
+      bytes = e ∙ ap₂ ◌++◌ same (ap (λ (n : ℕ). drop n before) (sym counted));
     }
 
 -- ---- a part written after another
@@ -98,9 +98,6 @@ pub record Putting (first : List ℕ) (from seed calls : ℕ) (out : List ℕ) (
   pub whole : written out at (bytes_after x left) ≡ written first from (bytes_after seed calls)
 
 module _ (first : List ℕ) (from seed calls : ℕ) where
-  pub putting_start : from + length (bytes_after seed calls) ≤ length first → Putting first from seed calls first seed calls from
-  putting_start h = record { room = h; same = refl; whole = refl }
-
   module _
       (out : List ℕ) (x left at : ℕ) (p : Putting first from seed calls out x left at) (y : ℕ) (e : y ≡ stepped x) (some : 0 < left)
     where

@@ -1,7 +1,7 @@
 // A load: a trace of calls made from a seed, the same on every machine.
 #![tactic(auto)]
 
-ghost use Rattle.std.specs.Prelude.{◌≡◌, [], map, ℕ, ◌+◌, ◌%◌, ◌≤◌, length};
+ghost use Rattle.std.specs.Prelude.{◌≡◌, [], ◌++◌, map, ℕ, ◌+◌, ◌%◌, ◌≤◌, length, drop};
 ghost use Rattle.pmc330_model.specs.Calls.{read, write, input, advance};
 ghost use Rattle.trace.specs.Fields.{bytes_of_fields};
 ghost use Rattle.load.specs.Bits.{stepped};
@@ -79,6 +79,17 @@ fn low(n: u32) -> u8
     (n % 256) as u8
 }
 
+// A field copied to the front of a buffer, and how many bytes it has.
+fn copy(field: &[u8], rest: &mut [u8]) -> usize
+    requires { length field.now ≤ length rest.old }
+    ensures count { result ≡ length field.now }
+    ensures bytes { rest.new ≡ field.now ++ drop (length field.now) rest.old }
+{
+    let count = field.len();
+    rest[..count].copy_from_slice(field);
+    count
+}
+
 // Each of these puts a field at the front of what is left of the buffer, and gives how many bytes it has. An offset is below
 // 256, a written value below 65,536 and a tick count below 4,096: the bytes above these are 0.
 fn put_read(rest: &mut [u8], q: u32) -> usize
@@ -86,7 +97,7 @@ fn put_read(rest: &mut [u8], q: u32) -> usize
     ensures { Put (field_for (read 16 (offset_of q))) rest.old rest.new result }
 {
     let field = [1, 3, 0, 16, low(q % 64 * 4), 0];
-    bytes::copy(&field, rest)
+    copy(&field, rest)
 }
 
 fn put_write(rest: &mut [u8], q: u32) -> usize
@@ -94,7 +105,7 @@ fn put_write(rest: &mut [u8], q: u32) -> usize
     ensures { Put (field_for (write 16 (offset_of q) (q % 65_536))) rest.old rest.new result }
 {
     let field = [2, 7, 0, 16, low(q % 64 * 4), 0, low(q), low(q / 256), 0, 0];
-    bytes::copy(&field, rest)
+    copy(&field, rest)
 }
 
 fn put_input(rest: &mut [u8], q: u32) -> usize
@@ -112,7 +123,7 @@ fn put_input(rest: &mut [u8], q: u32) -> usize
         low(v / 65_536),
         low(v / 16_777_216),
     ];
-    bytes::copy(&field, rest)
+    copy(&field, rest)
 }
 
 fn put_advance(rest: &mut [u8], q: u32) -> usize
@@ -120,7 +131,7 @@ fn put_advance(rest: &mut [u8], q: u32) -> usize
     ensures { Put (field_for (advance (q % 4_096))) rest.old rest.new result }
 {
     let field = [4, 4, 0, low(q), low(q % 4_096 / 256), 0, 0];
-    bytes::copy(&field, rest)
+    copy(&field, rest)
 }
 
 // A trigger or a reset: a field with no body.
@@ -129,7 +140,7 @@ fn put_empty(rest: &mut [u8], tag: u8) -> usize
     ensures { Put (field tag []) rest.old rest.new result }
 {
     let field = [tag, 0, 0];
-    bytes::copy(&field, rest)
+    copy(&field, rest)
 }
 
 // The field that x gives.
@@ -153,7 +164,7 @@ fn put_heading(rest: &mut [u8], range: u32) -> usize
     ensures { Put (heading_for range) rest.old rest.new result }
 {
     let field = [0, 5, 0, b'A', b'3', b'3', b'0', low(range)];
-    bytes::copy(&field, rest)
+    copy(&field, rest)
 }
 
 // The fields of all calls, from a place on.
