@@ -1,12 +1,12 @@
 // Replays the recording on standard input, of which it takes the first 32,768 bytes, and prints one line: that all agree, the
 // first call whose answer is not the recorded one, or why the trace is refused.
-// A read, a write or an allocation that fails ends it with that error.
+// A read or a write that fails ends it with that error.
 #![tactic(auto)]
 
 ghost use Rattle.std.specs.Prelude.{◌≤◌, ◌≡◌, length, take};
 
 use std::io;
-use std::io::{Read, Write};
+use std::io::Write;
 use trace::Replayed;
 
 // The line of a replay; how many bytes it has is returned.
@@ -21,9 +21,9 @@ fn put_replayed(text: &mut [u8], replayed: Replayed) -> usize
 }
 
 fn main(rt: HostRuntime) -> io::Result<()> {
-    let mut input = Vec::new(rt.alloc());
-    rt.stdin().take(32768).read_to_end(&mut input)?;
+    let mut input = [0u8; 32768];
+    let n = reads::read_full(&mut rt.stdin(), &mut input)?;
     let mut text = [0u8; 32];
-    let end = put_replayed(&mut text, trace::replay(&input));
+    let end = put_replayed(&mut text, trace::replay(&input[..n]));
     rt.stdout().write_all(&text[..end])
 }

@@ -1,9 +1,9 @@
 // Plays the trace on standard input, of which it takes the first 32,768 bytes, and prints a line for each call, or one line for a refused trace.
-// A read, a write or an allocation that fails ends it with that error.
+// A read or a write that fails ends it with that error.
 #![tactic(auto)]
 
 use std::io;
-use std::io::{Read, Write};
+use std::io::Write;
 
 // Prints what the player returned: 256 times the calls that it answered, and a number that is not 0 where it refused the trace.
 fn print<W: Write>(to: &mut W, text: &mut [u8], answers: &[u8], played: u64) -> io::Result<()> {
@@ -22,12 +22,11 @@ fn print<W: Write>(to: &mut W, text: &mut [u8], answers: &[u8], played: u64) -> 
 }
 
 fn main(rt: HostRuntime) -> io::Result<()> {
-    let alloc = rt.alloc();
-    let mut input = Vec::new(alloc);
-    rt.stdin().take(32768).read_to_end(&mut input)?;
+    let mut input = [0u8; 32768];
+    let n = reads::read_full(&mut rt.stdin(), &mut input)?;
     // The heading has 8 bytes and each call at least 3, so there are at most 10,920 calls, of which each has 5 bytes here and 32 below.
-    let mut answers = vec![in alloc; 0u8; 54600]?;
-    let played = trace::play(&input, &mut answers);
-    let mut text = vec![in alloc; 0u8; 349440]?;
+    let mut answers = [0u8; 54600];
+    let played = trace::play(&input[..n], &mut answers);
+    let mut text = [0u8; 349440];
     print(&mut rt.stdout(), &mut text, &answers, played)
 }
