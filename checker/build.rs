@@ -13,7 +13,7 @@ fn main() {
     println!("cargo:rerun-if-changed={}", archive.display());
     if !archive.is_file() {
         panic!(
-            "{} is missing: run `rt staticlib pmc330_c` at the root of the repository",
+            "{} is missing: run `tools/build pmc330_c` at the root of the repository",
             archive.display()
         );
     }

@@ -1,7 +1,8 @@
 -- Its store first, into the Start Channel's slot; then the first code of a fresh cycle.
 use mathlib.Core.Path.{◌≡◌, sym, ap, ◌∙◌}
-use mathlib.Core.Bool.{Bool, cond, false}
+use mathlib.Core.Bool.{Bool, cond, true, false}
 use Rattle.pmc330_model.specs.Board.{armed_by_trigger}
+use Rattle.pmc330_model.specs.Questions.{has_channels}
 use Rattle.pmc330_model.specs.declared.Board.{Board}
 use Rattle.pmc330.specs.Steps.{board_with, stored_core}
 use Rattle.pmc330.proofs.StartLaws.{armed_fresh}
@@ -12,8 +13,9 @@ returns c =
     let a = c.args in
     let b : Board = board_with a.core a.inputs.now a.gains.now a.codes.now a.unread.now in
     let s = c.stored-next.ensures in
+    let met : has_channels a.core.registers ≡ true = cc in
     let done : c.stored-next.result ≡ stored_core a.core false = s.core in
     armed_fresh a.core a.inputs.now a.gains.now a.codes.now a.unread.now _ _ _ _ _ done s.codes s.unread
     c.fresh_cycle-cycle.ensures
     c.begun.ensures
-    ∙ sym (ap (λ (t : Bool). cond t (armed_by_trigger b) b) (sym c.has_channels-met.ensures ∙ c.if-not-met.false))
+    ∙ sym (ap (λ (t : Bool). cond t (armed_by_trigger b) b) met)
