@@ -1,15 +1,17 @@
 -- Parts of a buffer: a byte, digits from the last one back, and a text that grows.
+use mathlib.Core.Bool.{Bool, true, false, cond, ◌&&◌}
 use mathlib.Core.List.{List, [], ◌∷◌, ◌++◌, append_assoc, append-nil}
-use mathlib.Core.Path.{◌≡◌, refl, sym, ap, ◌∙◌}
+use mathlib.Core.Path.{◌≡◌, refl, sym, ap, subst, ◌∙◌}
 use Prim.Native.Nat.{ℕ, suc, ◌+◌, ◌-◌, ◌*◌, ◌/◌, ◌%◌, ◌≤◌, ◌<◌}
 use native.Mathlib.Numerals.{add-one}
 use native.Mathlib.Omega.{arith}
-use borrow.Author.Tests.{le-leb}
+use borrow.Author.Tests.{le-leb, lt-leb}
 use lib.ListN.{length, take, drop, set, length-append, length-drop, length-set, drop_of_length-le}
+use lib.Dec.{leb}
 use borrow.Rule.Slice.PartMut.{mid_of, put_mid}
 use lib.Seq.{append_snoc, drop-cons, drop-drop, drop-append-add, drop-set-lt, get_or-set_same, paste-zero, set_split, take_all, take_at, take-set-le, length-take-le}
 use Rattle.lines.specs.Parts.{pasted}
-use Rattle.lines.specs.Text.{digit_of, digits_of, call_line, lines_of, taken, Begins}
+use Rattle.lines.specs.Text.{digit_of, digits_of, call_line, lines_of, taken, taken_lines, Begins}
 use Rattle.lines.proofs.TextLaws.{length_digits}
 
 -- one byte
@@ -45,6 +47,9 @@ pub record Pasting (first : List ℕ) (at base count number : ℕ) (out : List �
   pub same : pasted out at (digits_of base left rest) ≡ pasted first at (digits_of base count number)
 
 module _ (first : List ℕ) (at base count number : ℕ) where
+  pub pasting_start : at + count ≤ length first → Pasting first at base count number first number count
+  pasting_start h = record { fits = h; size = refl; same = refl }
+
   pub pasting_turn :
       (out : List ℕ) (rest left next byte : ℕ) → left ≡ suc next → byte ≡ digit_of (rest % base)
       → Pasting first at base count number out rest left
@@ -107,11 +112,17 @@ grown text before after count h g =
     rw g.holds (omega (arith, g.counted, length-append text (drop count before), length-drop count before)) in
     record { counted = g.counted; holds = g.holds; within = within; front = sym (length-take-le count after within) }
 
--- the buffer takes the line
+none : (before : List ℕ) → Begins [] before before 0
+none before = record { counted = refl; holds = refl; within = omega arith; front = refl }
+
+-- the buffer takes the line, or none
 pub takes :
     (line before after : List ℕ) (count : ℕ) → 32 ≤ length before → count ≤ 32 → Grown line before after count
     → Begins (taken line before) before after count
 takes line before after count h short g = rw (le-leb 32 (length before) h) (grown line before after count (omega arith) g)
+
+pub takes_none : (line before : List ℕ) → length before < 32 → Begins (taken line before) before before 0
+takes_none line before h = rw (lt-leb 32 (length before) h) (none before)
 
 -- a line that is put into the rest of a buffer
 module _ (whole line after : List ℕ) (at count : ℕ) (h : at + 32 ≤ length whole) where
@@ -170,3 +181,22 @@ module _ (first answers : List ℕ) (calls : ℕ) where
             rw (add-one call)
             (more first out next (lines_of answers call) (call_line answers call) at end p.text e is);
       }
+
+  pub putting_end :
+      (out : List ℕ) (at call : ℕ) → 5 * calls ≤ length answers → 32 * calls ≤ length first → calls ≤ call
+      → Putting first answers calls out at call → Begins (taken_lines answers calls first) first out at
+  putting_end out at call a b h p =
+      let last : call ≡ calls = omega (arith, p.within) in
+      rw (le-leb (5 * calls) (length answers) a, le-leb (32 * calls) (length first) b)
+      (grown (lines_of answers calls) first out at (omega (arith, p.fits))
+      (subst (λ (n : ℕ). Grown (lines_of answers n) first out at) last p.text))
+
+  pub putting_short : length answers < 5 * calls → Begins (taken_lines answers calls first) first first 0
+  putting_short h = rw (lt-leb (5 * calls) (length answers) h) (none first)
+
+  pub putting_small : length first < 32 * calls → Begins (taken_lines answers calls first) first first 0
+  putting_small h = rw (lt-leb (32 * calls) (length first) h) (go (leb (5 * calls) (length answers)))
+    where
+      go : (t : Bool) → Begins (cond (t && false) (lines_of answers calls) []) first first 0
+      go true = none first
+      go false = none first

@@ -98,6 +98,9 @@ pub record Putting (first : List ℕ) (from seed calls : ℕ) (out : List ℕ) (
   pub whole : written out at (bytes_after x left) ≡ written first from (bytes_after seed calls)
 
 module _ (first : List ℕ) (from seed calls : ℕ) where
+  pub putting_start : from + length (bytes_after seed calls) ≤ length first → Putting first from seed calls first seed calls from
+  putting_start h = record { room = h; same = refl; whole = refl }
+
   module _
       (out : List ℕ) (x left at : ℕ) (p : Putting first from seed calls out x left at) (y : ℕ) (e : y ≡ stepped x) (some : 0 < left)
     where

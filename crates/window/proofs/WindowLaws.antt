@@ -12,6 +12,7 @@ use lib.ListN.{length, get_or, take, drop, set, length-append, length-drop, leng
 use lib.Seq.{append_snoc, drop-append-add, drop-cons, drop-drop, get_or_at, get_or-drop, set_at, take-take, length-take-le}
 use Rattle.analog.specs.Sums.{sum_of}
 use Rattle.analog.proofs.Integers.{lt_or_le}
+use Rattle.window.specs.Machine.{Filled}
 use Rattle.window.specs.Window.{window_after, sums_after, held_after, is_length}
 
 -- ---- the sum of a window, one code later
@@ -108,6 +109,10 @@ module _ (n : ℕ) (codes first : List ℕ) where
   unfolding sum_of sums_after
   summing_start = record { within = omega arith; size = refl; total = omega (arith, left_and_held n codes 0 (omega arith)); holds = refl }
 
+  -- and from a window that has filled
+  pub summing_from : (sum : ℕ) → Filled n codes sum first → Summing n codes first first sum n
+  summing_from sum f = record { within = f.within; size = refl; total = f.total; holds = f.holds }
+
   pub summing_turn :
       (out : List ℕ) (sum at next : ℕ) → length codes ≤ length first → at < length codes
       → next ≡ sum_of (window_after n codes (suc at))
@@ -126,6 +131,12 @@ module _ (n : ℕ) (codes first : List ℕ) where
             ∙ sym (append_snoc sums next rest)
             ∙ ap (λ (last : ℕ). sums ++ (last ∷ []) ++ rest) e;
       }
+
+  pub summing_end :
+      (out : List ℕ) (sum at end : ℕ) → at ≡ end → Summing n codes first out sum at
+      → (sum ≡ sum_of (window_after n codes end)) × (out ≡ sums_after n codes end ++ drop end first)
+  summing_end out sum at end last s =
+      (s.total ∙ ap (λ (k : ℕ). sum_of (window_after n codes k)) last, s.holds ∙ ap (λ (k : ℕ). sums_after n codes k ++ drop k first) last)
 
 -- ---- the output
 
@@ -216,7 +227,21 @@ held_most n count held valid e = go (leb n count) refl e
     go true f e = (omega (arith, e, length_most n valid), omega (arith, e, leb-true n count f))
     go false f e = (omega (arith, e, length_most n valid, leb-false n count f), omega (arith, e))
 
--- what the window leaves when it has slid to the end
+-- what the window leaves when it has filled, and when it has slid to the end
+pub filled_is :
+    (full : ℕ) (codes : List ℕ) (sum : ℕ) (first out : List ℕ) → (full ≤ 32) × (full ≤ length codes) → length codes ≤ length first
+    → sum ≡ sum_of (window_after full codes full) → out ≡ sums_after full codes full ++ drop full first
+    → Filled full codes sum out
+filled_is full codes sum first out most room total e =
+    let sums = sums_after full codes full in
+    record {
+      most = most.0;
+      within = most.1;
+      room = omega (arith, ap length e, sums_size full codes full first (omega (arith, most.1)));
+      total = total;
+      holds = e ∙ ap (λ (l : List ℕ). sums ++ l) (sym (ap (drop full) e ∙ past_drop full codes full full first (omega arith)));
+    }
+
 pub slid_is :
     (n full : ℕ) (codes first filled out : List ℕ) → full ≡ held_after n (length codes) → full ≤ length codes
     → filled ≡ sums_after full codes full ++ drop full first → out ≡ sums_after full codes (length codes) ++ drop (length codes) filled
