@@ -1,9 +1,6 @@
 -- Number, index and count of each case; the sum fits, since index and count are small.
-use borrow.Author.Rules.{rules}
-use mathlib.Core.Path.{◌≡◌, sym, ap, subst, ◌∙◌}
+use mathlib.Core.Path.{sym, subst}
 use native.Mathlib.Omega.{arith}
-use Rattle.trace.specs.Replay.{replayed, replay_result}
-use Rattle.trace.specs.declared.Replayed.TheVariants.{Differs}
 use Rattle.trace.proofs.Replays.{Small, replay_small}
 use Rattle.pmc330_c.proofs.pmc330_replay.Goals as goal
 

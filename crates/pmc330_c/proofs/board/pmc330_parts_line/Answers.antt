@@ -1,5 +1,4 @@
 -- The two cases.
-use borrow.Author.Rules.{rules}
 use mathlib.Core.Path.{sym, ap, ◌∙◌}
 use Rattle.pmc330_model.specs.Words.{to_bit}
 use Rattle.pmc330_c.proofs.board.pmc330_parts_line.Goals as goal
