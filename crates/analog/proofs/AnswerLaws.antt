@@ -1,90 +1,147 @@
--- An answer follows its questions: what `answered` gives, by whether all are met.
-use mathlib.Core.Bool.{Bool, true, false, cond, ◌&&◌, false≢true}
+-- An answer follows its questions: what `asked` and `answered` give, by whether all are met.
+use mathlib.Core.Bool.{Bool, true, false, false≢true}
 use mathlib.Core.List.{List, [], ◌∷◌}
 use mathlib.Core.Path.{◌≡◌, refl, sym, ap, ◌∙◌}
 use Prim.Native.Nat.{ℕ, ◌<◌}
 use native.Mathlib.Omega.{arith}
-use lib.Dec.{eqb, ltb}
-use borrow.Author.Tests.{eq-eqb, ne_eqb, eqb-true, ltb-true}
-use Rattle.analog.specs.Answers.{Question, first_no, all_met, answered, number_of, value_of, is_accepted}
+use Rattle.std.specs.Prelude.{Result, Ok, Err, ⊤}
+use Rattle.analog.specs.Answers.{number_of_refusal, Question, first_no, all_met, asked, with_value, answered, number_of, is_accepted}
 use Rattle.analog.specs.Sentences.{AnsweredBy}
-use Rattle.analog.specs.declared.Answer.{Answer}
-use Rattle.analog.specs.declared.Answer.TheVariants.{Accepted, Refused}
+use Rattle.analog.specs.declared.Refusal.{Refusal}
+use Rattle.analog.specs.declared.Refusal.TheVariants.{BadWidth, BadOffset, Unmapped, BadValue, BadDirection, Busy, BadCode, NoScan, BadChannels, BadInterval, BadChannel, BadVoltage, BadTicks, BadRange, BadCalibration, BadCodes, BadSums, BadHeading, BadField, ShortBuffer, BadWindow, BadSlot, StrayAnswer, BadSeed, NoRoom}
 
--- every question has a number above 0, by a test that is computed
-abbrev pub numbered : List Question → Bool
-numbered [] = true
-numbered (q ∷ later) = ltb 0 q.number && numbered later
+-- no refusal has number 0
+pub number_some : (refusal : Refusal) → 0 < number_of_refusal refusal
+number_some BadWidth = omega arith
+number_some BadOffset = omega arith
+number_some Unmapped = omega arith
+number_some BadValue = omega arith
+number_some BadDirection = omega arith
+number_some Busy = omega arith
+number_some BadCode = omega arith
+number_some NoScan = omega arith
+number_some BadChannels = omega arith
+number_some BadInterval = omega arith
+number_some BadChannel = omega arith
+number_some BadVoltage = omega arith
+number_some BadTicks = omega arith
+number_some BadRange = omega arith
+number_some BadCalibration = omega arith
+number_some BadCodes = omega arith
+number_some BadSums = omega arith
+number_some BadHeading = omega arith
+number_some BadField = omega arith
+number_some ShortBuffer = omega arith
+number_some BadWindow = omega arith
+number_some BadSlot = omega arith
+number_some StrayAnswer = omega arith
+number_some BadSeed = omega arith
+number_some NoRoom = omega arith
+
+-- what the questions come to: all are met, or one meets a no, which refuses with its number
+pub data Outcome : List Question → Type 0 where
+  met : {questions : List Question} → all_met questions ≡ true → first_no questions ≡ 0 → asked questions ≡ Ok record {} → Outcome questions
+  unmet :
+      {questions : List Question} (refusal : Refusal) → all_met questions ≡ false → first_no questions ≡ number_of_refusal refusal
+      → asked questions ≡ Err refusal → Outcome questions
+
+pub outcome : (questions : List Question) → Outcome questions
+unfolding all_met first_no asked
+outcome [] = met refl refl refl
+outcome (q ∷ later) = go q.met refl (outcome later)
+  where
+    go : (answer : Bool) → q.met ≡ answer → Outcome later → Outcome (q ∷ later)
+    go true e (met all none ok) = met (rw e all) (rw e none) (rw e ok)
+    go true e (unmet refusal some number err) = unmet refusal (rw e some) (rw e number) (rw e err)
+    go false e later_outcome = unmet q.refusal (rw e refl) (rw e refl) (rw e refl)
 
 -- all met: there is no first no
 pub none_first : (questions : List Question) → all_met questions ≡ true → first_no questions ≡ 0
-unfolding all_met first_no
-none_first [] e = refl
-none_first (q ∷ later) e = go q.met (none_first later) e
+none_first questions e = go (outcome questions)
   where
-    go : (met : Bool) → (all_met later ≡ true → first_no later ≡ 0) → (met && all_met later) ≡ true → cond met (first_no later) q.number ≡ 0
-    go true rest e = rest e
-    go false rest e = absurd (false≢true e)
+    go : Outcome questions → first_no questions ≡ 0
+    go (met all none ok) = none
+    go (unmet refusal some number err) = absurd (false≢true (sym some ∙ e))
 
 -- not all met: the first no has its number
-pub some_first : (questions : List Question) → numbered questions ≡ true → all_met questions ≡ false → 0 < first_no questions
-unfolding all_met first_no
-some_first [] n e = absurd (false≢true (sym e))
-some_first (q ∷ later) n e = go q.met (ltb 0 q.number) refl (some_first later) n e
+pub some_first : (questions : List Question) → all_met questions ≡ false → 0 < first_no questions
+some_first questions e = go (outcome questions)
   where
-    go :
-        (met some : Bool) → ltb 0 q.number ≡ some → (numbered later ≡ true → all_met later ≡ false → 0 < first_no later)
-        → (some && numbered later) ≡ true → (met && all_met later) ≡ false
-        → 0 < cond met (first_no later) q.number
-    go true true own rest n e = rest n e
-    go false true own rest n e = ltb-true 0 q.number own
-    go true false own rest n e = absurd (false≢true n)
-    go false false own rest n e = absurd (false≢true n)
+    go : Outcome questions → 0 < first_no questions
+    go (met all none ok) = absurd (false≢true (sym e ∙ all))
+    go (unmet refusal some number err) = omega (arith, number, number_some refusal)
 
-module _ (questions : List Question) (value : ℕ) (n : numbered questions ≡ true) where
-  refused_is : all_met questions ≡ false → answered questions value ≡ Refused (first_no questions)
-  unfolding answered
-  refused_is e =
-      rw (ne_eqb (first_no questions) 0 (λ none. omega (arith, some_first questions n e)))
+-- no first no: all are met
+pub none_asked : (questions : List Question) → first_no questions ≡ 0 → asked questions ≡ Ok record {}
+none_asked questions e = go (outcome questions)
+  where
+    go : Outcome questions → asked questions ≡ Ok record {}
+    go (met all none ok) = ok
+    go (unmet refusal some number err) = absurd (omega (arith, e, number, number_some refusal))
 
-  pub accepted_is : all_met questions ≡ true → answered questions value ≡ Accepted value
-  unfolding answered
-  accepted_is e = rw (eq-eqb (first_no questions) 0 (none_first questions e))
+-- the number of the first no, by what `asked` gives
+number_asked : (questions : List Question) → first_no questions ≡ number_of (with_value (asked questions) 0)
+number_asked questions = go (outcome questions)
+  where
+    go : Outcome questions → first_no questions ≡ number_of (with_value (asked questions) 0)
+    go (met all none ok) = rw ok none
+    go (unmet refusal some number err) = rw err number
 
-  -- the two cases of an answer
-  by_cases : (answer : Answer) (met : Bool) → all_met questions ≡ met → answered questions value ≡ answer → AnsweredBy questions answer
-  by_cases answer true e same =
-      record {
-        refused = λ f. absurd (false≢true (sym f ∙ e));
-        accepted = λ f. ap is_accepted (sym same ∙ accepted_is e);
-        number = ap number_of (sym same ∙ accepted_is e) ∙ sym (none_first questions e);
-        value = λ f. absurd (false≢true (sym f ∙ e));
-      }
-  by_cases answer false e same =
-      record {
-        refused = λ f. sym same ∙ refused_is e;
-        accepted = λ f. absurd (false≢true (sym e ∙ f));
-        number = ap number_of (sym same ∙ refused_is e);
-        value = λ f. ap value_of (sym same ∙ refused_is e);
-      }
+pub ok_first : (questions : List Question) → asked questions ≡ Ok record {} → first_no questions ≡ 0
+ok_first questions e = number_asked questions ∙ ap (λ (r : Result ⊤ Refusal). number_of (with_value r 0)) e
+
+pub err_first : (questions : List Question) (refusal : Refusal) → asked questions ≡ Err refusal → first_no questions ≡ number_of_refusal refusal
+err_first questions refusal e = number_asked questions ∙ ap (λ (r : Result ⊤ Refusal). number_of (with_value r 0)) e
+
+-- the answer, by what `asked` gives
+pub answered_ok : (questions : List Question) (value : ℕ) → asked questions ≡ Ok record {} → answered questions value ≡ Ok value
+unfolding answered
+answered_ok questions value e = ap (λ (r : Result ⊤ Refusal). with_value r value) e
+
+pub answered_err : (questions : List Question) (value : ℕ) (refusal : Refusal) → asked questions ≡ Err refusal → answered questions value ≡ Err refusal
+unfolding answered
+answered_err questions value refusal e = ap (λ (r : Result ⊤ Refusal). with_value r value) e
+
+module _ (questions : List Question) (value : ℕ) where
+  pub accepted_is : all_met questions ≡ true → answered questions value ≡ Ok value
+  accepted_is e = answered_ok questions value (none_asked questions (none_first questions e))
 
   pub answered_by : AnsweredBy questions (answered questions value)
-  answered_by = by_cases (answered questions value) (all_met questions) refl refl
+  unfolding answered
+  answered_by = go (outcome questions)
+    where
+      go : Outcome questions → AnsweredBy questions (with_value (asked questions) value)
+      go (met all none ok) =
+          rw ok
+          (record {
+            refused = λ f. absurd (false≢true (sym f ∙ all));
+            accepted = λ f. refl;
+            number = sym none;
+            value = λ f. absurd (false≢true (sym f ∙ all));
+          })
+      go (unmet refusal some number err) =
+          rw err
+          (record {
+            refused = λ f. sym number;
+            accepted = λ f. absurd (false≢true (sym some ∙ f));
+            number = sym number;
+            value = λ f. refl;
+          })
 
 -- an accepted answer has no first no
 pub accepted_none : (questions : List Question) (value : ℕ) → is_accepted (answered questions value) ≡ true → first_no questions ≡ 0
 unfolding answered
-accepted_none questions value e = go (eqb (first_no questions) 0) refl e
+accepted_none questions value e = go (outcome questions)
   where
-    go : (none : Bool) → eqb (first_no questions) 0 ≡ none → is_accepted (cond none (Accepted value) (Refused (first_no questions))) ≡ true → first_no questions ≡ 0
-    go true n e = eqb-true (first_no questions) 0 n
-    go false n e = absurd (false≢true e)
+    go : Outcome questions → first_no questions ≡ 0
+    go (met all none ok) = none
+    go (unmet refusal some number err) = absurd (false≢true (sym (ap (λ (r : Result ⊤ Refusal). is_accepted (with_value r value)) err) ∙ e))
 
 -- of a call's value only that of an accepted call is answered
 pub same_if_met : (questions : List Question) (value other : ℕ) → (first_no questions ≡ 0 → value ≡ other) → answered questions value ≡ answered questions other
 unfolding answered
-same_if_met questions value other same = go (eqb (first_no questions) 0) refl
+same_if_met questions value other same = go (outcome questions)
   where
-    go : (none : Bool) → eqb (first_no questions) 0 ≡ none → ◌≡◌ {A = Answer} (cond none (Accepted value) (Refused (first_no questions))) (cond none (Accepted other) (Refused (first_no questions)))
-    go true n = ap Accepted (same (eqb-true (first_no questions) 0 n))
-    go false n = refl
+    go : Outcome questions → with_value (asked questions) value ≡ with_value (asked questions) other
+    go (met all none ok) = ap (with_value (asked questions)) (same none)
+    go (unmet refusal some number err) = rw err refl

@@ -1,9 +1,9 @@
 -- Document 01, "Two-point correction".
 use Rattle.std.specs.Prelude.{ℕ, Bool, ◌&&◌, List, [], ◌∷◌, leb, ltb}
-use Rattle.analog.specs.Answers.{Question, question, answered}
+use Rattle.analog.specs.Answers.{Answer, Question, question, answered}
 use Rattle.analog.specs.Code.{low_end, width_of, gain_of, calibration_of, limited}
 use Rattle.analog.specs.Fractions.{Fraction, whole, natural, ◌+ℚ◌, ◌-ℚ◌, ◌*ℚ◌, ◌/ℚ◌, nearest}
-use Rattle.analog.specs.declared.Answer.{Answer}
+use Rattle.analog.specs.declared.Refusal.TheVariants.{BadCalibration, BadCodes, BadSums}
 
 -- "both codes 011 to 111"
 abbrev pub is_calibration : ℕ → Bool
@@ -25,9 +25,9 @@ sums_possible high_sum low_sum raw = leb high_sum 2_097_120 && leb low_sum 2_097
 -- the questions of a correction, in order; 17: "Is the high sum above the low?"
 abbrev pub correction_questions : (range gain high low high_sum low_sum raw : ℕ) → List Question
 correction_questions range gain high low high_sum low_sum raw =
-    question 15 (pair_usable range gain high low)
-    ∷ question 16 (sums_possible high_sum low_sum raw)
-    ∷ question 17 (ltb low_sum high_sum)
+    question BadCalibration (pair_usable range gain high low)
+    ∷ question BadCodes (sums_possible high_sum low_sum raw)
+    ∷ question BadSums (ltb low_sum high_sum)
     ∷ []
 
 -- "Equations 1 and 2 of the manuals give, with VH, VL the calibration voltages, CH, CL the sums / 32 and

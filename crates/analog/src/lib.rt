@@ -1,69 +1,84 @@
 // The analog arithmetic: the code of a voltage, its format, and the two-point correction.
 #![tactic(auto)]
 
-ghost use Rattle.std.specs.Prelude.{◌≡◌, ◌<◌};
-ghost use Rattle.analog.specs.Code.{gain_of, calibration_of, code_of, in_format};
+ghost use Rattle.std.specs.Prelude.{◌≡◌, ◌%◌, ◌<◌, get_or};
+ghost use Rattle.analog.specs.Answers.{number_of_refusal};
+ghost use Rattle.analog.specs.Code.{calibration_of, code_of, in_format};
 ghost use Rattle.analog.specs.Correction.{is_calibration, pair_usable, sums_possible, corrected_count, corrected_answer};
-ghost use Rattle.analog.specs.Machine.{raised_of, depth_of, factor_of, limited_quotient, nearest_count, CountFits, Correctable};
+ghost use Rattle.analog.specs.Machine.{raised_of, limited_quotient, nearest_count, CountFits, Correctable};
 
-// The answer of a call. The definitions number_of and value_of give document 01's number and value of each case.
-#[derive(Clone, Copy)]
-pub enum Answer {
-    Accepted(u32),
-    Refused(u8),
+// Why a call is refused: the question of document 01 or 02 that meets a no, with its number there.
+#[derive(Clone, Copy, Debug, PartialEq, Eq)]
+pub enum Refusal {
+    BadWidth = 1,
+    BadOffset = 2,
+    Unmapped = 3,
+    BadValue = 4,
+    BadDirection = 5,
+    Busy = 6,
+    BadCode = 7,
+    NoScan = 8,
+    BadChannels = 9,
+    BadInterval = 10,
+    BadChannel = 11,
+    BadVoltage = 12,
+    BadTicks = 13,
+    BadRange = 14,
+    BadCalibration = 15,
+    BadCodes = 16,
+    BadSums = 17,
+    BadHeading = 18,
+    BadField = 19,
+    ShortBuffer = 20,
+    BadWindow = 21,
+    BadSlot = 22,
+    StrayAnswer = 26,
+    BadSeed = 27,
+    NoRoom = 28,
 }
 
+impl Refusal {
+    // The number of the question.
+    pub fn number(self) -> u8
+        ensures { result ≡ number_of_refusal self }
+    {
+        self as u8
+    }
+}
+
+// What a call answers: its value, or why it is refused.
+pub type Answer = Result<u32, Refusal>;
+
+// The gain that a gain field means.
 const GAINS: [u64; 4] = [1, 2, 4, 8];
 
+// How far each range's low end is below 0 V.
 const DEPTHS: [u64; 4] = [5_000_000, 10_000_000, 0, 0];
 
+// 65536 over each range's width is this number over 78125: a small factor keeps all products within 64 bits.
 const FACTORS: [u64; 4] = [512, 256, 1024, 512];
 
 const CALIBRATIONS: [u32; 8] = [0, 0, 0, 4_900_000, 2_450_000, 1_225_000, 612_500, 0];
+
+// An entry of a table by a range or a gain field, of which the remainder counts.
+fn entry(table: &[u64; 4], field: u32) -> u64
+    ensures { result ≡ get_or table.now (field % 4) 0 }
+{
+    table[(field % 4) as usize]
+}
 
 // The calibration voltage of an acquisition code, in uV.
 pub fn calibration(acquisition: u32) -> u32
     ensures { result ≡ calibration_of acquisition }
 {
-    let at = (acquisition % 8) as usize;
-    CALIBRATIONS[at]
-}
-
-// The gain that a gain field means.
-fn gain_of(field: u32) -> u64
-    ensures { result ≡ gain_of field }
-{
-    let at = (field % 4) as usize;
-    GAINS[at]
-}
-
-fn wide(n: u32) -> u64
-    ensures { result ≡ n }
-{
-    n as u64
-}
-
-// How far the range's low end is below 0 V.
-fn depth_of(range: u32) -> u64
-    ensures { result ≡ depth_of range }
-{
-    let at = (range % 4) as usize;
-    DEPTHS[at]
-}
-
-// 65536 over the range's width is this number over 78125: a small factor keeps all products within 64 bits.
-fn factor_of(range: u32) -> u64
-    ensures { result ≡ factor_of range }
-{
-    let at = (range % 4) as usize;
-    FACTORS[at]
+    CALIBRATIONS[(acquisition % 8) as usize]
 }
 
 // A voltage above the least 32-bit one: from here on no number is signed.
 fn raised(microvolts: i32) -> u64
     ensures { result ≡ raised_of microvolts }
 {
-    (microvolts as i64 + 2147483648) as u64
+    (i64::from(microvolts) + 2147483648) as u64
 }
 
 // (top - less) / bottom rounded down, limited to 0..65535.
@@ -71,23 +86,16 @@ fn limited_quotient(top: u64, less: u64, bottom: u64) -> u32
     requires { 0 < bottom }
     ensures { result ≡ limited_quotient top less bottom }
 {
-    if top < less {
-        return 0;
-    }
-    let quotient = (top - less) / bottom;
-    if quotient < 65535 {
-        return quotient as u32;
-    }
-    65535
+    (top.saturating_sub(less) / bottom).min(65535) as u32
 }
 
 // The straight code of a voltage.
 pub fn code(range: u32, gain: u32, microvolts: i32) -> u16
     ensures { result ≡ code_of range gain microvolts }
 {
-    let g = gain_of(gain);
-    let factor = factor_of(range);
-    let voltage = raised(microvolts) * g + depth_of(range);
+    let g = entry(&GAINS, gain);
+    let factor = entry(&FACTORS, range);
+    let voltage = raised(microvolts) * g + entry(&DEPTHS, range);
     let zero = 2147483648 * g;
     limited_quotient(voltage * factor, zero * factor, 78125) as u16
 }
@@ -96,52 +104,31 @@ pub fn code(range: u32, gain: u32, microvolts: i32) -> u16
 pub fn formatted(straight: bool, code: u16) -> u16
     ensures { result ≡ in_format straight code }
 {
-    if straight {
-        return code;
-    }
-    if code < 0x8000 {
-        code + 0x8000
-    } else {
-        code - 0x8000
-    }
+    if straight { code } else { code ^ 0x8000 }
 }
 
 fn is_calibration(acquisition: u32) -> bool
     ensures { result ≡ is_calibration acquisition }
 {
-    3 <= acquisition && acquisition <= 7
+    matches!(acquisition, 3..=7)
 }
 
 // Question 15.
 fn pair_usable(range: u32, gain: u32, high: u32, low: u32) -> bool
     ensures { result ≡ pair_usable range gain high low }
 {
-    if 3 < range {
-        return false;
-    }
-    if 3 < gain {
-        return false;
-    }
-    if !is_calibration(high) {
-        return false;
-    }
-    if !is_calibration(low) {
-        return false;
-    }
-    calibration(low) < calibration(high)
+    range <= 3
+        && gain <= 3
+        && is_calibration(high)
+        && is_calibration(low)
+        && calibration(low) < calibration(high)
 }
 
 // Question 16.
 fn sums_possible(high_sum: u32, low_sum: u32, raw: u32) -> bool
     ensures { result ≡ sums_possible high_sum low_sum raw }
 {
-    if 2_097_120 < high_sum {
-        return false;
-    }
-    if 2_097_120 < low_sum {
-        return false;
-    }
-    raw <= 65_535
+    high_sum <= 2_097_120 && low_sum <= 2_097_120 && raw <= 65_535
 }
 
 // The corrected count from the slope and the base that the calibration gives: the nearest whole number, halves up.
@@ -169,22 +156,22 @@ fn corrected_count(
     requires { Correctable high low high_sum low_sum raw }
     ensures { result ≡ corrected_count range gain high low high_sum low_sum raw }
 {
-    let g = gain_of(gain);
-    let low_voltage = wide(calibration(low));
-    let slope = g * (wide(calibration(high)) - low_voltage);
-    let base = low_voltage * g + depth_of(range);
-    let span = wide(high_sum - low_sum);
+    let g = entry(&GAINS, gain);
+    let low_voltage = u64::from(calibration(low));
+    let slope = g * (u64::from(calibration(high)) - low_voltage);
+    let base = low_voltage * g + entry(&DEPTHS, range);
+    let span = u64::from(high_sum - low_sum);
     nearest_count(
         slope,
         base,
-        factor_of(range),
+        entry(&FACTORS, range),
         span,
-        wide(low_sum),
-        wide(raw),
+        u64::from(low_sum),
+        u64::from(raw),
     )
 }
 
-// The two-point correction of a raw code.
+// The two-point correction of a raw code. C hands its numbers over one by one, and any numbers.
 pub fn corrected(
     range: u32,
     gain: u32,
@@ -197,13 +184,13 @@ pub fn corrected(
     ensures { result ≡ corrected_answer range gain high low high_sum low_sum raw }
 {
     if !pair_usable(range, gain, high, low) {
-        return Answer::Refused(15);
+        return Err(Refusal::BadCalibration);
     }
     if !sums_possible(high_sum, low_sum, raw) {
-        return Answer::Refused(16);
+        return Err(Refusal::BadCodes);
     }
     if high_sum <= low_sum {
-        return Answer::Refused(17);
+        return Err(Refusal::BadSums);
     }
-    Answer::Accepted(corrected_count(range, gain, high, low, high_sum, low_sum, raw))
+    Ok(corrected_count(range, gain, high, low, high_sum, low_sum, raw))
 }

@@ -1,5 +1,7 @@
 -- Document 01, "Traces": the lines that the program prints, as bytes; and 02, A6's: those of a replay.
-use Rattle.std.specs.Prelude.{ℕ, zero, suc, ◌+◌, ◌*◌, ◌/◌, ◌%◌, ◌≤◌, cond, ◌&&◌, List, [], ◌∷◌, ◌++◌, ◌≡◌, ltb, leb, length, take, drop, get_or}
+use Rattle.std.specs.Prelude.{ℕ, zero, suc, ◌+◌, ◌*◌, ◌/◌, ◌%◌, ◌≤◌, ◌<◌, cond, ◌&&◌, List, [], ◌∷◌, ◌++◌, ◌≡◌, ltb, leb, length, take, drop, get_or}
+use Rattle.lines.specs.declared.Line.{Line}
+use Rattle.lines.specs.declared.Line.TheVariants.{Call, Refused, Agree, Differs}
 
 -- the byte of a digit: '0' to '9', then 'A' to 'F', "capitals"
 abbrev pub digit_of : ℕ → ℕ
@@ -73,13 +75,30 @@ unfoldable pub lines_of : (answers : List ℕ) (calls : ℕ) → List ℕ
 lines_of answers zero = []
 lines_of answers (suc n) = lines_of answers n ++ call_line answers n
 
+-- what is printed of the answers of so many calls: all lines where each call has an answer, else nothing
+abbrev pub taken_lines : (answers : List ℕ) (calls : ℕ) → List ℕ
+taken_lines answers calls = cond (leb (5 * calls) (length answers)) (lines_of answers calls) []
+
+-- 32 bytes have room for a call's line, where the answers are bytes and the calls are counted in 32 bits
+abbrev pub EveryTextFits : Type 0
+EveryTextFits =
+    (answers : List ℕ) (calls : ℕ) → ((place : ℕ) → get_or answers place 0 < 256) → calls < 0x100000000
+    → length (lines_of answers calls) ≤ 32 * calls
+
+-- the text of a line
+abbrev pub text_of : Line → List ℕ
+text_of (Call index number value) = line_of index number value
+text_of (Refused number) = refused_of number
+text_of (Agree count) = agree_of count
+text_of (Differs index count) = differs_of index count
+
 -- what a buffer takes of a line: all of it where it has at least 32 bytes, else nothing
 abbrev pub taken : (line buffer : List ℕ) → List ℕ
 taken line buffer = cond (leb 32 (length buffer)) line []
 
--- what a buffer takes of the lines: all of them where each call has an answer and there are 32 bytes for each, else nothing
-abbrev pub taken_lines : (answers : List ℕ) (calls : ℕ) (buffer : List ℕ) → List ℕ
-taken_lines answers calls buffer =
+-- what a buffer takes of the lines of so many calls: all of them where each call has an answer and there are 32 bytes for each, else nothing
+abbrev pub put_lines : (answers : List ℕ) (calls : ℕ) (buffer : List ℕ) → List ℕ
+put_lines answers calls buffer =
     cond (leb (5 * calls) (length answers) && leb (32 * calls) (length buffer)) (lines_of answers calls) []
 
 -- a buffer that begins with a text, of so many bytes, and is as before from there on; the last two facts follow, and let a caller take those bytes

@@ -83,9 +83,9 @@ xor_bit place a b h =
 
 -- ---- a step, as the code has it
 
-xor_of_lem : (a b : ℕ) → a < 2 ^ 32 → b < 2 ^ 32 → bit_xor a b ≡ xor_of a b
+bit_xor_is : (a b : ℕ) → a < 2 ^ 32 → b < 2 ^ 32 → bit_xor a b ≡ xor_of a b
 unfolding xor_of
-xor_of_lem a b ha hb = xor_is 32 a b ha hb
+bit_xor_is a b ha hb = xor_is 32 a b ha hb
 
 -- x and x shifted by so many places
 abbrev with_left : (places x : ℕ) → ℕ
@@ -95,10 +95,10 @@ abbrev with_right : (places x : ℕ) → ℕ
 with_right places x = bit_xor x (shifted_right places x)
 
 left_is : (places x : ℕ) → x < 2 ^ 32 → with_left places x ≡ xor_left places x
-left_is places x h = xor_of_lem x (shifted_left places x) h (omega arith)
+left_is places x h = bit_xor_is x (shifted_left places x) h (omega arith)
 
 right_is : (x : ℕ) → x < 2 ^ 32 → with_right 17 x ≡ xor_right 17 x
-right_is x h = xor_of_lem x (shifted_right 17 x) h (omega arith)
+right_is x h = bit_xor_is x (shifted_right 17 x) h (omega arith)
 
 pub step_is : (x : ℕ) → x < 2 ^ 32 → with_left 5 (with_right 17 (with_left 13 x)) ≡ stepped x
 unfolding stepped

@@ -1,22 +1,20 @@
 -- The calls of a load and their fields: each call is read back from its field.
 use mathlib.Core.Bool.{Bool, true, false, cond, not, ◌&&◌}
 use mathlib.Core.Logic.{⊎_elim}
-use mathlib.Core.List.{List, [], ◌∷◌}
 use mathlib.Core.Path.{◌≡◌, refl, sym, ap, ap₂, ◌∙◌}
-use Prim.Native.Nat.{ℕ, zero, suc, ◌+◌, ◌-◌, ◌*◌, ◌/◌, ◌%◌, ◌^◌, ◌≤◌, ◌<◌}
+use Prim.Native.Nat.{ℕ, zero, suc, ◌+◌, ◌-◌, ◌/◌, ◌%◌, ◌^◌, ◌≤◌, ◌<◌}
 use native.Mathlib.Nat.{pow-suc}
 use native.Mathlib.Omega.{arith}
 use lib.Dec.{eqb, leb}
 use lib.IntN.{pos, negsuc}
-use lib.ListN.{length, get_or}
-use borrow.Author.Tests.{lt-ltb, le-ltb, le-leb, leb-true, not-true}
-use Rattle.pmc330_model.proofs.Cases.{lt_or_le, and_left, and_right, same_below}
+use lib.ListN.{length}
+use borrow.Author.Tests.{lt-ltb, le-ltb, leb-true, not-true}
+use Rattle.pmc330_model.proofs.Cases.{lt_or_le, and_left, and_right}
 use Rattle.pmc330_model.specs.Calls.{Call, read, write, input, advance, trigger, reset, look, clear}
 use Rattle.trace.specs.Grammar.{length_in, is_kind_in, length_of, is_call_tag, is_answer_tag, low_first, signed_of, call_of}
 use Rattle.trace.specs.Fields.{Field, field_bytes, call_in}
 use Rattle.trace.proofs.FieldBytes.{is_sound}
 use Rattle.load.specs.Load.{voltage_of, offset_of, call_picked, call_from, low_bytes, unsigned_of, field_for}
-use Rattle.load.specs.Machine.{bytes_from}
 
 -- ---- a number in bytes, and back
 
@@ -37,10 +35,10 @@ module _ (q : ℕ) where
   from_zero : 10_000_000 ≤ v → voltage_of q ≡ pos (v - 10_000_000)
   from_zero high = rw (le-ltb v 10_000_000 high)
 
-  pub voltage_low : v < 10_000_000 → v + 4_284_967_296 ≡ unsigned_of (voltage_of q)
+  voltage_low : v < 10_000_000 → v + 4_284_967_296 ≡ unsigned_of (voltage_of q)
   voltage_low low = sym (ap unsigned_of (below_zero low) ∙ omega arith)
 
-  pub voltage_high : 10_000_000 ≤ v → v - 10_000_000 ≡ unsigned_of (voltage_of q)
+  voltage_high : 10_000_000 ≤ v → v - 10_000_000 ≡ unsigned_of (voltage_of q)
   voltage_high high = sym (ap unsigned_of (from_zero high))
 
   voltage_fits : unsigned_of (voltage_of q) < 256 ^ 4
@@ -136,39 +134,6 @@ reset_back : call_in (field_for reset) ≡ reset
 unfolding call_of
 reset_back = refl
 
--- ---- the bytes of a field, as the code has them: what is below 256 has no higher bytes
-
-module _ (q : ℕ) where
-  pub read_bytes_lem :
-      (low : ℕ) → low ≡ q % 64 * 4 % 256 → 1 ∷ 3 ∷ 0 ∷ 16 ∷ low ∷ 0 ∷ [] ≡ field_bytes (field_for (read 16 (offset_of q)))
-  unfolding low_bytes
-  read_bytes_lem low e = ap₂ (λ (x y : ℕ). 1 ∷ 3 ∷ 0 ∷ 16 ∷ x ∷ y ∷ []) e (omega arith)
-
-  pub write_bytes :
-      (low a b : ℕ) → low ≡ q % 64 * 4 % 256 → a ≡ q % 256 → b ≡ q / 256 % 256
-      → 2 ∷ 7 ∷ 0 ∷ 16 ∷ low ∷ 0 ∷ a ∷ b ∷ 0 ∷ 0 ∷ [] ≡ field_bytes (field_for (write 16 (offset_of q) (q % 65_536)))
-  unfolding low_bytes
-  write_bytes low a b e f g =
-      ap (λ (l : List ℕ). 2 ∷ 7 ∷ 0 ∷ 16 ∷ l)
-      (ap₂ ◌∷◌ e (ap₂ ◌∷◌ (omega arith) (ap₂ ◌∷◌ (omega arith) (ap₂ ◌∷◌ (omega arith) (ap₂ (λ (x y : ℕ). x ∷ y ∷ []) (omega arith) (omega arith))))))
-
-  pub input_bytes :
-      (channel a b d e : ℕ) → channel ≡ q % 32 % 256 → a ≡ unsigned_of (voltage_of q) % 256 → b ≡ unsigned_of (voltage_of q) / 256 % 256
-      → d ≡ unsigned_of (voltage_of q) / 65_536 % 256 → e ≡ unsigned_of (voltage_of q) / 16_777_216 % 256
-      → 3 ∷ 5 ∷ 0 ∷ channel ∷ a ∷ b ∷ d ∷ e ∷ [] ≡ field_bytes (field_for (input (q % 32) (voltage_of q)))
-  unfolding low_bytes
-  input_bytes channel a b d e f g h i j =
-      ap (λ (l : List ℕ). 3 ∷ 5 ∷ 0 ∷ l)
-      (ap₂ ◌∷◌ f (ap₂ ◌∷◌ g (ap₂ ◌∷◌ h (ap₂ (λ (x y : ℕ). x ∷ y ∷ []) (omega arith) (omega arith)))))
-
-  pub advance_bytes :
-      (a b : ℕ) → a ≡ q % 256 → b ≡ q % 4_096 / 256 % 256
-      → 4 ∷ 4 ∷ 0 ∷ a ∷ b ∷ 0 ∷ 0 ∷ [] ≡ field_bytes (field_for (advance (q % 4_096)))
-  unfolding low_bytes
-  advance_bytes a b e f =
-      ap (λ (l : List ℕ). 4 ∷ 4 ∷ 0 ∷ l)
-      (ap₂ ◌∷◌ (omega arith) (ap₂ ◌∷◌ f (ap₂ (λ (x y : ℕ). x ∷ y ∷ []) (omega arith) (omega arith))))
-
 -- ---- the call that is picked
 
 -- what holds of each of the six calls holds of the one that is picked
@@ -192,27 +157,3 @@ pub call_back : (x : ℕ) → call_in (field_for (call_from x)) ≡ call_from x
 call_back x =
     let q = x / 8 in
     picked (λ (call : Call). call_in (field_for call) ≡ call) q (read_back q) (write_back q) (input_back q) (advance_back q) trigger_back reset_back (x % 8)
-
--- ---- how many bytes a field has
-
-abbrev pub sizes : List ℕ
-sizes = 6 ∷ 6 ∷ 6 ∷ 10 ∷ 8 ∷ 7 ∷ 3 ∷ 3 ∷ []
-
-pub size_is : (x : ℕ) → get_or sizes (x % 8) 0 ≡ length (bytes_from x)
-unfolding call_picked low_bytes
-size_is x =
-    same_below (λ (pick : ℕ). get_or sizes pick 0) (λ (pick : ℕ). length (field_bytes (field_for (call_picked pick (x / 8)))))
-    8 refl (x % 8) (omega arith)
-
--- the size of the call that a number picks
-pub picked_size : (x pick : ℕ) → x % 8 ≡ pick → get_or sizes pick 0 ≡ length (bytes_from x)
-picked_size x pick e = ap (λ (n : ℕ). get_or sizes n 0) (sym e) ∙ size_is x
-
--- a read by any of its three numbers
-pub picks_read : (x : ℕ) → x % 8 < 3 → call_picked 0 (x / 8) ≡ call_from x
-unfolding call_picked
-picks_read x h = sym (rw (le-leb (x % 8) 2 (omega arith)))
-
-pub read_size : (x : ℕ) → x % 8 < 3 → 6 ≡ length (bytes_from x)
-unfolding call_picked low_bytes
-read_size x h = ap (λ (call : Call). length (field_bytes (field_for call))) (picks_read x h)

@@ -2,13 +2,13 @@
 use mathlib.Core.List.{List, [], ◌∷◌}
 use mathlib.Core.Path.{◌≡◌, refl}
 use lib.IntN.{negsuc}
-use Rattle.analog.specs.Answers.{first_no, answered}
-use Rattle.analog.specs.declared.Answer.{Answer}
-use Rattle.analog.specs.declared.Answer.TheVariants.{Accepted, Refused}
+use Rattle.analog.specs.Answers.{asked, answered, Answer}
 use Rattle.pmc330_model.specs.Calls.{read, write, input, advance, trigger, reset}
 use Rattle.trace.specs.Fields.{bytes_of_fields}
 use Rattle.load.specs.Bits.{xor_in, xor_of, stepped}
 use Rattle.load.specs.Load.{call_picked, load_calls, low_bytes, load_trace, load_answer}
+use Rattle.std.specs.Prelude.{Ok, Err}
+use Rattle.analog.specs.declared.Refusal.TheVariants.{NoRoom, BadSeed, BadRange}
 
 first_steps : stepped 1 ∷ stepped 270_369 ∷ stepped 67_634_689 ∷ [] ≡ 270_369 ∷ 67_634_689 ∷ 2_647_435_461 ∷ []
 unfolding stepped xor_of xor_in
@@ -21,9 +21,9 @@ unfolding load_calls call_picked stepped xor_of xor_in
 eight_calls = refl
 
 -- the voltage is -5,264,037 microvolts
-other_calls_lem : load_calls 83 3 ≡ trigger ∷ input 3 (negsuc 5_264_036) ∷ write 16 0x64 0x6319 ∷ []
+other_calls : load_calls 83 3 ≡ trigger ∷ input 3 (negsuc 5_264_036) ∷ write 16 0x64 0x6319 ∷ []
 unfolding load_calls call_picked stepped xor_of xor_in
-other_calls_lem = refl
+other_calls = refl
 
 other_bytes :
     load_trace 83 2 3
@@ -39,6 +39,6 @@ other_bytes = refl
 abbrev answers : List Answer
 answers = load_answer 1 1 8 54 ∷ load_answer 1 1 8 53 ∷ load_answer 1 0 0 8 ∷ load_answer 0 4 0 0 ∷ load_answer 1 4 0 0 ∷ []
 
-answers_are : answers ≡ Accepted 54 ∷ Refused 28 ∷ Accepted 8 ∷ Refused 27 ∷ Refused 14 ∷ []
-unfolding load_answer answered first_no load_trace load_calls call_picked low_bytes bytes_of_fields stepped xor_of xor_in
+answers_are : answers ≡ Ok 54 ∷ Err NoRoom ∷ Ok 8 ∷ Err BadSeed ∷ Err BadRange ∷ []
+unfolding load_answer answered asked load_trace load_calls call_picked low_bytes bytes_of_fields stepped xor_of xor_in
 answers_are = refl

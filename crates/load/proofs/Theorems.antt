@@ -2,7 +2,7 @@
 use mathlib.Core.Bool.{Bool, true, false, cond, not, ◌&&◌}
 use mathlib.Core.List.{List, ◌∷◌, ◌++◌, map}
 use mathlib.Core.Path.{◌≡◌, refl, sym, ap, ap₂, subst, ◌∙◌}
-use Prim.Native.Nat.{ℕ, zero, suc, ◌*◌, ◌≤◌}
+use Prim.Native.Nat.{ℕ, zero, suc, ◌+◌, ◌*◌, ◌≤◌}
 use native.Mathlib.Omega.{arith}
 use lib.Dec.{eqb, leb}
 use lib.ListN.{length, take, drop, length-append, length-drop}
@@ -14,18 +14,16 @@ use Rattle.pmc330_model.specs.Calls.{Call}
 use Rattle.pmc330_model.specs.Logbook.{logbook_answers}
 use Rattle.pmc330_model.proofs.Cases.{and_left, and_right}
 use Rattle.trace.specs.Grammar.{length_in, length_of, low_first}
-use Rattle.trace.specs.Fields.{Field, bytes_of_fields, tag_of, is_whole, same_bytes, is_heading, range_of, whole, later_fields, is_undamaged, listed, fields_after, call_fields, call_in, calls_of}
+use Rattle.trace.specs.Fields.{Field, field_bytes, bytes_of_fields, tag_of, is_whole, same_bytes, is_heading, range_of, whole, later_fields, is_undamaged, listed, fields_after, call_fields, call_in, calls_of}
 use Rattle.trace.specs.Play.{answers_follow, trace_questions, in_buffer}
 use Rattle.trace.proofs.FieldBytes.{all_sound, fields_back}
 use Rattle.trace.proofs.Theorems.{traces_accepted}
 use Rattle.load.specs.Bits.{stepped}
 use Rattle.load.specs.Load.{call_from, load_calls, field_for, load_trace, load_questions, load_answer, load_output}
-use Rattle.load.specs.Machine.{bytes_from}
+use Rattle.load.specs.Machine.{calls_bytes}
 use Rattle.load.specs.Sentences.{PlayedLoad, EveryXor, EveryLoad, EveryReadLoad, EveryPlayedLoad}
 use Rattle.load.proofs.BitLaws.{xor_bit, xor_most}
 use Rattle.load.proofs.CallLaws.{call_field, call_back}
-use Rattle.load.proofs.LoadLaws.{trace_length}
-use Rattle.load.proofs.WrittenLaws.{bytes_after}
 
 pub xor_by_bits : EveryXor
 xor_by_bits x y = record { bit = λ place h. xor_bit place x y h; most = xor_most x y }
@@ -35,10 +33,10 @@ xor_by_bits x y = record { bit = λ place h. xor_bit place x y h; most = xor_mos
 abbrev fields_from : (x calls : ℕ) → List Field
 fields_from x calls = map field_for (load_calls x calls)
 
-all_sound_lem : (x calls : ℕ) → all_sound (fields_from x calls) ≡ true
+fields_sound : (x calls : ℕ) → all_sound (fields_from x calls) ≡ true
 unfolding load_calls all_sound
-all_sound_lem x zero = refl
-all_sound_lem x (suc calls) = ap₂ ◌&&◌ (call_field (call_from (stepped x))).sound (all_sound_lem (stepped x) calls)
+fields_sound x zero = refl
+fields_sound x (suc calls) = ap₂ ◌&&◌ (call_field (call_from (stepped x))).sound (fields_sound (stepped x) calls)
 
 -- every field is a call, and the player reads from it the call that it was made of
 all_calls : (x calls : ℕ) → call_fields (fields_from x calls) ≡ fields_from x calls
@@ -64,19 +62,19 @@ how_many x zero = refl
 how_many x (suc calls) = ap suc (how_many (stepped x) calls)
 
 -- 3 to 10 bytes each
-least_bytes : (x calls : ℕ) → 3 * calls ≤ length (bytes_after x calls)
+least_bytes : (x calls : ℕ) → 3 * calls ≤ length (calls_bytes x calls)
 unfolding bytes_of_fields load_calls
 least_bytes x zero = omega arith
 least_bytes x (suc calls) =
     let y = stepped x in
-    omega (arith, length-append (bytes_from y) (bytes_after y calls), (call_field (call_from y)).least, least_bytes y calls)
+    omega (arith, length-append (field_bytes (field_for (call_from y))) (calls_bytes y calls), (call_field (call_from y)).least, least_bytes y calls)
 
-most_bytes : (x calls : ℕ) → length (bytes_after x calls) ≤ 10 * calls
+most_bytes : (x calls : ℕ) → length (calls_bytes x calls) ≤ 10 * calls
 unfolding bytes_of_fields load_calls
 most_bytes x zero = omega arith
 most_bytes x (suc calls) =
     let y = stepped x in
-    omega (arith, length-append (bytes_from y) (bytes_after y calls), (call_field (call_from y)).most, most_bytes y calls)
+    omega (arith, length-append (field_bytes (field_for (call_from y))) (calls_bytes y calls), (call_field (call_from y)).most, most_bytes y calls)
 
 -- ---- the trace of a load
 
@@ -84,12 +82,17 @@ module _ (seed range calls : ℕ) where
   abbrev trace : List ℕ
   trace = load_trace seed range calls
 
+  -- the heading, and the fields of the calls
+  trace_length : length trace ≡ 8 + length (calls_bytes seed calls)
+  unfolding load_trace bytes_of_fields
+  trace_length = omega arith
+
   abbrev fields : List Field
   fields = fields_from seed calls
 
   later : later_fields trace ≡ whole fields
   unfolding load_trace bytes_of_fields
-  later = fields_back fields (all_sound_lem seed calls)
+  later = fields_back fields (fields_sound seed calls)
 
   alone : call_fields (fields_after trace) ≡ fields_after trace
   alone = ap call_fields (ap listed later) ∙ all_calls seed calls ∙ sym (ap listed later)
@@ -192,13 +195,13 @@ module _ (seed range calls : ℕ) (out : List ℕ) where
 
   value_is : met ≡ true → value_of (load_answer seed range calls (length out)) ≡ length bytes
   unfolding load_answer
-  value_is e = ap value_of (accepted_is (load_questions seed range calls (length out)) (length bytes) refl e)
+  value_is e = ap value_of (accepted_is (load_questions seed range calls (length out)) (length bytes) e)
 
 pub loads_answered : EveryLoad
 unfolding load_answer load_output
 loads_answered seed range calls out =
     record {
-      answer = answered_by (load_questions seed range calls (length out)) (length (load_trace seed range calls)) refl;
+      answer = answered_by (load_questions seed range calls (length out)) (length (load_trace seed range calls));
       refused = λ unmet. rw unmet;
       value = value_is seed range calls out;
       front = front_is seed range calls out;

@@ -1,10 +1,10 @@
 -- Document 02, A8, "A load to run everywhere": a trace of calls made from a seed.
 use Rattle.std.specs.Prelude.{ℕ, zero, suc, ◌-◌, ◌*◌, ◌/◌, ◌%◌, cond, not, ◌&&◌, List, [], ◌∷◌, ◌++◌, map, eqb, leb, ℤ, pos, negsuc, ◌-ℤ◌, length, drop}
-use Rattle.analog.specs.Answers.{Question, question, all_met, answered}
-use Rattle.analog.specs.declared.Answer.{Answer}
+use Rattle.analog.specs.Answers.{Question, question, all_met, answered, Answer}
 use Rattle.pmc330_model.specs.Calls.{Call, read, write, input, advance, trigger, reset, look, clear}
 use Rattle.trace.specs.Fields.{Field, bytes_of_fields, fixed_bytes}
 use Rattle.load.specs.Bits.{stepped}
+use Rattle.analog.specs.declared.Refusal.TheVariants.{BadSeed, BadRange, NoRoom}
 
 -- ---- the calls
 
@@ -75,9 +75,9 @@ load_trace seed range calls = bytes_of_fields (heading_for range ∷ map field_f
 -- "Checks: 27, seed 0, looked at first and 14 next. 28, a buffer too short for the trace or a trace over 18's length, after both."
 abbrev pub load_questions : (seed range calls room : ℕ) → List Question
 load_questions seed range calls room =
-    question 27 (not (eqb seed 0))
-    ∷ question 14 (leb range 3)
-    ∷ question 28 (leb (length (load_trace seed range calls)) room && leb (length (load_trace seed range calls)) 16_777_216)
+    question BadSeed (not (eqb seed 0))
+    ∷ question BadRange (leb range 3)
+    ∷ question NoRoom (leb (length (load_trace seed range calls)) room && leb (length (load_trace seed range calls)) 16_777_216)
     ∷ []
 
 -- "its length returned"

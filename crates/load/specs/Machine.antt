@@ -1,22 +1,24 @@
 -- What the private functions promise: how the code computes. No caller cites it.
-use Rattle.std.specs.Prelude.{ℕ, ◌+◌, ◌≤◌, ◌<◌, List, ◌++◌, ◌≡◌, length, take, drop}
-use Rattle.trace.specs.Fields.{Field, field_bytes}
-use Rattle.load.specs.Load.{call_from, field_for}
+use Rattle.std.specs.Prelude.{ℕ, ◌%◌, List, map}
+use Rattle.pmc330_model.specs.Calls.{Call, read, write, input, advance, trigger, reset}
+use Rattle.trace.specs.Fields.{field_bytes, bytes_of_fields}
+use Rattle.load.specs.Load.{voltage_of, offset_of, load_calls, field_for}
+use Rattle.load.specs.declared.Kind.{Kind}
+use Rattle.load.specs.declared.Kind.TheVariants.{Read, Write, Input, Advance, Trigger, Reset}
 
--- the bytes of the field that an x gives
-abbrev pub bytes_from : (x : ℕ) → List ℕ
-bytes_from x = field_bytes (field_for (call_from x))
+-- the call of a kind, with its numbers from q
+abbrev pub call_of : Kind → (q : ℕ) → Call
+call_of Read q = read 16 (offset_of q)
+call_of Write q = write 16 (offset_of q) (q % 65_536)
+call_of Input q = input (q % 32) (voltage_of q)
+call_of Advance q = advance (q % 4_096)
+call_of Trigger q = trigger
+call_of Reset q = reset
 
--- a length, counted up to a limit: itself, or where it is above the limit some number above it
-pub record CountedTo (limit size counted : ℕ) : Type 0 where
-  pub within : size ≤ limit → counted ≡ size
-  pub above : limit < size → limit < counted
+-- the bytes of its field
+abbrev pub call_bytes : Kind → (q : ℕ) → List ℕ
+call_bytes kind q = field_bytes (field_for (call_of kind q))
 
--- a field put at the front of a buffer, and how many bytes it has
-pub record Put (field : Field) (before after : List ℕ) (count : ℕ) : Type 0 where
-  pub counted : count ≡ length (field_bytes field)
-  pub bytes : after ≡ field_bytes field ++ drop count before
-
--- a buffer with a part of it written, from a place on
-abbrev pub written : (buffer : List ℕ) (at : ℕ) (part : List ℕ) → List ℕ
-written buffer at part = take at buffer ++ part ++ drop (at + length part) buffer
+-- the bytes of the fields of so many calls, from an x on
+abbrev pub calls_bytes : (x calls : ℕ) → List ℕ
+calls_bytes x calls = bytes_of_fields (map field_for (load_calls x calls))

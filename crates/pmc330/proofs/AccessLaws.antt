@@ -2,31 +2,26 @@
 use mathlib.Core.Bool.{Bool, true, false, cond, not, ◌&&◌}
 use mathlib.Core.List.{List, [], ◌∷◌}
 use mathlib.Core.Path.{◌≡◌, refl, sym, ap, ap₂, ◌∙◌}
-use Prim.Native.Nat.{ℕ, ◌/◌, ◌%◌, ◌^◌, ◌<◌}
-use native.Mathlib.Nat.{mod-eq_of_lt}
-use native.Mathlib.Omega.{arith}
-use Rattle.analog.specs.Answers.{question, first_no}
+use Prim.Native.Nat.{ℕ, ◌^◌}
+use lib.Dec.{ltb}
+use Rattle.std.specs.Prelude.{Err}
+use Rattle.analog.specs.Answers.{question, asked}
+use Rattle.analog.specs.declared.Refusal.{Refusal}
+use Rattle.analog.specs.declared.Refusal.TheVariants.{BadValue, BadDirection}
 use lib.ListN.{set}
-use Rattle.pmc330_model.specs.Map.{Register, unmapped, interrupt, control, prescaler, timer, channels, start_convert, new_data, missed_data, gain, mailbox, if_mailbox, class_of, is_mapped, is_readable}
+use Rattle.pmc330_model.specs.Map.{if_mailbox, class_of, is_readable}
+use Rattle.pmc330_model.specs.declared.Register.{Register}
+use Rattle.pmc330_model.specs.declared.Register.TheVariants.{Unmapped, Interrupt, Control, Prescaler, Timer, Channels, StartConvert, NewData, MissedData, Gain, Mailbox}
 use Rattle.pmc330_model.specs.Words.{read_word, read_bytes, held_word, written_word, with_word, gains_with, is_release, is_stop, is_start}
 use Rattle.pmc330_model.specs.Calls.{read, write}
-use Rattle.pmc330_model.specs.Questions.{is_width, is_aligned, resulting_word, write_questions, call_questions, read_questions}
+use Rattle.pmc330_model.specs.Questions.{resulting_word, call_questions, access_questions, word_questions}
 use Rattle.pmc330_model.specs.Board.{idle_cycle, view_of, questions_of, after_read, after_write, after_call, value_of_call, started}
 use Rattle.pmc330_model.specs.declared.Registers.{Registers}
 use Rattle.pmc330_model.specs.declared.Cycle.{Cycle}
 use Rattle.pmc330_model.specs.declared.Board.{Board}
-use Rattle.pmc330.specs.Classes.{register_of}
-use Rattle.pmc330.specs.Widths.{power_of}
-use Rattle.pmc330.proofs.WidthLaws.{width_is, power_is}
-
--- where no question meets a no, the width is one of three
-met_width : (width offset : ℕ) (register : Register) → first_no (read_questions width offset register) ≡ 0 → is_width width ≡ true
-unfolding first_no
-met_width width offset register none = go (is_width width) none
-  where
-    go : (t : Bool) → cond t (first_no (question 2 (is_aligned width offset) ∷ question 3 (is_mapped register) ∷ question 5 (is_readable register) ∷ [])) 1 ≡ 0 → t ≡ true
-    go true e = refl
-    go false e = absurd (omega arith)
+use Rattle.pmc330.specs.Widths.{bits_of, IsAccess}
+use Rattle.pmc330.specs.declared.questions.Access.{Access}
+use Rattle.pmc330.proofs.QuestionLaws.{and_then, asked_append, asked_then}
 
 -- a read's counts are those of the board after it
 abbrev with_unread : Board → List ℕ → Board
@@ -44,53 +39,67 @@ with_unread b unread =
     }
 
 pub read_counts : (register : Register) (b : Board) → with_unread b (if_mailbox register (λ slot. set b.unread slot 0) b.unread) ≡ after_read register b
-read_counts unmapped b = refl
-read_counts interrupt b = refl
-read_counts control b = refl
-read_counts prescaler b = refl
-read_counts timer b = refl
-read_counts channels b = refl
-read_counts start_convert b = refl
-read_counts (new_data n) b = refl
-read_counts (missed_data n) b = refl
-read_counts (gain n) b = refl
-read_counts (mailbox n) b = refl
+read_counts Unmapped b = refl
+read_counts Interrupt b = refl
+read_counts Control b = refl
+read_counts Prescaler b = refl
+read_counts Timer b = refl
+read_counts Channels b = refl
+read_counts StartConvert b = refl
+read_counts (NewData n) b = refl
+read_counts (MissedData n) b = refl
+read_counts (Gain n) b = refl
+read_counts (Mailbox n) b = refl
 
-module _ (b : Board) (width offset class : ℕ) (is : register_of class ≡ class_of offset) where
-  pub read_number_is : first_no (read_questions width offset (register_of class)) ≡ first_no (questions_of b (read width offset))
+-- the questions of an access that is refused, and those that are left of one that is not
+module _ (b : Board) (bits at : ℕ) where
+  pub read_refused : {refusal : Refusal} → asked (access_questions bits at (class_of at)) ≡ Err refusal → asked (questions_of b (read bits at)) ≡ Err refusal
   unfolding call_questions
-  read_number_is = ap (λ (r : Register). first_no (read_questions width offset r)) is
+  read_refused e = asked_then (access_questions bits at (class_of at)) _ e
 
-  pub read_board_is : after_read (register_of class) b ≡ after_call b (read width offset)
-  unfolding after_call
-  read_board_is = ap (λ (r : Register). after_read r b) is
+  pub write_refused :
+      (value : ℕ) {refusal : Refusal} → asked (access_questions bits at (class_of at)) ≡ Err refusal
+      → asked (questions_of b (write bits at value)) ≡ Err refusal
+  unfolding call_questions
+  write_refused value e = asked_then (access_questions bits at (class_of at)) _ e
 
-  pub read_value_is :
-      (word : ℕ) → word ≡ read_word (view_of b) (register_of class) → first_no (read_questions width offset (register_of class)) ≡ 0
-      → word / 0x100 ^ (offset % 4) % power_of width ≡ value_of_call b (read width offset)
-  unfolding value_of_call
-  read_value_is word e none =
-      ap (λ (n : ℕ). word / 0x100 ^ (offset % 4) % n) (power_is width (width_is width (met_width width offset (register_of class) none)))
-      ∙ ap (read_bytes width offset) (e ∙ ap (read_word (view_of b)) is)
-
-  module _ (value old word : ℕ) (resulting : Registers) (held : old ≡ held_word b.registers b.gains (register_of class))
-      (written : word ≡ written_word width offset value old) (small : word < 65536)
-      (result : resulting ≡ with_word (register_of class) (word % 65536) b.registers) where
-    word_is : word ≡ resulting_word b.registers b.gains width offset value
-    word_is = written ∙ ap (written_word width offset value) (held ∙ ap (held_word b.registers b.gains) is)
-
-    pub write_number_is :
-        first_no (write_questions b.registers (not b.cycle.running) width offset value (register_of class) word resulting)
-        ≡ first_no (questions_of b (write width offset value))
+  module _ (a : Access) (is : IsAccess bits at a) where
+    pub read_asked : asked (questions_of b (read bits at)) ≡ asked (question BadDirection (is_readable a.register) ∷ [])
     unfolding call_questions
-    write_number_is =
-        ap (λ (r : Registers). first_no (write_questions b.registers (not b.cycle.running) width offset value (register_of class) word r))
-        (result ∙ ap (λ (n : ℕ). with_word (register_of class) n b.registers) (mod-eq_of_lt small))
-        ∙ ap₂ (λ (r : Register) (n : ℕ). first_no (write_questions b.registers (not b.cycle.running) width offset value r n (with_word r n b.registers))) is word_is
+    read_asked =
+        asked_then (access_questions bits at (class_of at)) _ is.met
+        ∙ ap (λ (r : Register). asked (question BadDirection (is_readable r) ∷ [])) (sym is.register)
 
-    pub write_board_is : after_write (register_of class) word b ≡ after_call b (write width offset value)
+    pub read_board : after_read a.register b ≡ after_call b (read bits at)
     unfolding after_call
-    write_board_is = ap₂ (λ (r : Register) (n : ℕ). after_write r n b) is word_is
+    read_board = ap (λ (r : Register). after_read r b) is.register
+
+    pub read_value : read_bytes (bits_of a.width) at (read_word (view_of b) a.register) ≡ value_of_call b (read bits at)
+    unfolding value_of_call
+    read_value = ap₂ (λ (n : ℕ) (r : Register). read_bytes n at (read_word (view_of b) r)) is.width is.register
+
+    module _ (value word : ℕ) (written : word ≡ written_word (bits_of a.width) at value (held_word b.registers b.gains a.register)) where
+      word_is : word ≡ resulting_word b.registers b.gains bits at value
+      word_is =
+          written
+          ∙ ap₂ (λ (n : ℕ) (r : Register). written_word n at value (held_word b.registers b.gains r)) is.width is.register
+
+      -- 4, and then 5 and on
+      pub write_asked :
+          (resulting : Registers) → resulting ≡ with_word a.register word b.registers
+          → asked (questions_of b (write bits at value))
+          ≡ and_then (asked (question BadValue (ltb value (2 ^ bits_of a.width)) ∷ [])) (word_questions b.registers (not b.cycle.running) a.register word resulting)
+      unfolding call_questions
+      write_asked resulting result =
+          let idle : Bool = not b.cycle.running in
+          asked_then (access_questions bits at (class_of at)) _ is.met
+          ∙ sym (ap₂ (λ (r : Register) (n : ℕ). asked (question BadValue (ltb value (2 ^ bits)) ∷ word_questions b.registers idle r n (with_word r n b.registers))) is.register word_is)
+          ∙ sym (ap₂ (λ (n : ℕ) (r : Registers). asked (question BadValue (ltb value (2 ^ n)) ∷ word_questions b.registers idle a.register word r)) is.width result)
+          ∙ asked_append (question BadValue (ltb value (2 ^ bits_of a.width)) ∷ []) _
+
+      pub write_board : after_write a.register word b ≡ after_call b (write bits at value)
+      unfolding after_call
+      write_board = ap₂ (λ (r : Register) (n : ℕ). after_write r n b) is.register word_is
 
 -- a board with its parts written
 module _ (b : Board) (register : Register) (word : ℕ) (registers : Registers) (gains : List ℕ) (pending : Bool) (cycle : Cycle)

@@ -1,7 +1,4 @@
-pub mod Classes
-pub mod WidthLaws
-pub mod CycleLaws
-pub mod PlanLaws
+pub mod FieldLaws
 pub mod TimeLaws
 pub mod TurnLaws
 pub mod SpanLaws

@@ -7,28 +7,19 @@ use lib.Dec.{eqb}
 use lib.IntN.{ℤ}
 use lib.ListN.{get_or, set, replicate}
 use Rattle.pmc330_model.specs.Map.{trigger_field}
-use Rattle.pmc330_model.specs.Schedule.{code_at, formatted_by, is_burst, is_timed, is_trigger_only}
+use Rattle.pmc330_model.specs.Schedule.{formatted_by, is_burst, is_timed, is_trigger_only}
 use Rattle.pmc330_model.specs.Questions.{has_channels, has_interval}
 use Rattle.pmc330_model.specs.Board.{stored, begun, fresh_cycle, started, trigger_taken, armed_by_trigger, triggered}
 use Rattle.pmc330_model.specs.Board as model
 use Rattle.pmc330_model.specs.declared.Cycle.{Cycle}
 use Rattle.pmc330_model.specs.declared.Board.{Board}
-use Rattle.pmc330.specs.Steps.{board_with, begun_core, stored_core, Planned, begun_by}
-use Rattle.pmc330.specs.declared.cycle.Plan.{Plan}
+use Rattle.pmc330.specs.Steps.{board_with, begun_core, stored_core}
 use Rattle.pmc330.specs.declared.held.Core.{Core}
-use Rattle.pmc330.proofs.PlanLaws.{plan_begun}
 
 abbrev pub with_cycle : Core → Cycle → Core
 with_cycle c x = record { range = c.range; registers = c.registers; pending = c.pending; held = c.held; cycle = x }
 
 module _ (c : Core) (inputs : List ℤ) (gains : List ℕ) where
-  pub begun_is :
-      (p : Plan) (held : ℕ) (after : Cycle) → held ≡ code_at c.range c.registers gains inputs ((c.registers.start + c.cycle.index) % 32)
-      → Planned c.registers p → after ≡ begun_by p c.cycle
-      → ◌≡◌ {A = Core} (record { range = c.range; registers = c.registers; pending = c.pending; held = held; cycle = after }) (begun_core c inputs gains)
-  begun_is p held after h planned a =
-      ap₂ (λ (n : ℕ) (x : Cycle). record { range = c.range; registers = c.registers; pending = c.pending; held = n; cycle = x }) h (a ∙ plan_begun c.registers p c.cycle planned)
-
   -- the start of a cycle
   module _ (codes unread : List ℕ) (cycle : Cycle) (is : cycle ≡ fresh_cycle c.registers) where
     pub started_burst : (n : Core) → n ≡ begun_core (with_cycle c cycle) inputs gains → is_burst c.registers ≡ true → board_with n inputs gains codes (replicate 32 0) ≡ started (board_with c inputs gains codes unread)
@@ -85,22 +76,6 @@ module _ (c : Core) (inputs : List ℤ) (gains : List ℕ) where
     taken_plain e plain =
         let b : Board = board_with c inputs gains codes unread in
         ap (λ (x : Core). board_with x inputs gains codes unread) e ∙ sym (ap (λ (t : Bool). begun (cond t (stored b.cycle.slot b.cycle.ends b) b)) plain)
-
--- a trigger on an idle board, by its tests
-module _ (b : Board) where
-  pub idle_untimed : is_timed b.registers ≡ false → b ≡ cond (is_timed b.registers && has_channels b.registers && has_interval b.registers) (started b) b
-  idle_untimed e = sym (ap (λ (t : Bool). cond (t && has_channels b.registers && has_interval b.registers) (started b) b) e)
-
-  pub idle_empty : is_timed b.registers ≡ true → has_channels b.registers ≡ false → b ≡ cond (is_timed b.registers && has_channels b.registers && has_interval b.registers) (started b) b
-  idle_empty e f = sym (ap₂ (λ (t u : Bool). cond (t && u && has_interval b.registers) (started b) b) e f)
-
-  pub idle_by :
-      (met : Bool) → is_timed b.registers ≡ true → has_channels b.registers ≡ true → has_interval b.registers ≡ met
-      → cond met (started b) b ≡ cond (is_timed b.registers && has_channels b.registers && has_interval b.registers) (started b) b
-  idle_by met e f g =
-      sym
-      (ap₂ (λ (t u : Bool). cond (t && u && has_interval b.registers) (started b) b) e f
-      ∙ ap (λ (t : Bool). cond t (started b) b) g)
 
 -- a trigger, by its tests
 abbrev triggered_where : Board → (acts running only : Bool) → Board

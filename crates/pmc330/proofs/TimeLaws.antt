@@ -1,5 +1,5 @@
 -- A jump of the code is the jump of the board that its parts make.
-use mathlib.Core.Bool.{Bool, true, false, cond, ◌&&◌, ◌||◌}
+use mathlib.Core.Bool.{Bool, true, false, cond, ◌&&◌, beq}
 use mathlib.Core.List.{List}
 use mathlib.Core.Logic.{◌⊎◌, inl, inr, ⊎_elim}
 use mathlib.Core.Path.{◌≡◌, refl, sym, ap, ap₂, subst, ◌∙◌}
@@ -9,21 +9,28 @@ use native.Mathlib.Omega.{arith}
 use lib.Dec.{eqb}
 use lib.IntN.{ℤ}
 use borrow.Author.Tests.{eq-eqb, ne_eqb}
+use Rattle.std.proofs.Common.{rules}
+use Rattle.std.specs.Cmp.{booleans_Decides}
+use Rattle.std.proofs.lemmas.Bool.{eqb-true, false≢true}
 use Rattle.pmc330_model.specs.Schedule.{is_single, is_timed}
 use Rattle.pmc330_model.specs.Board.{idle_cycle, with_cycle, stored, begun, elapsed, is_store_due, is_beginning_due, stored_if_due, begun_if_due, ticked, advanced, stores_in}
 use Rattle.pmc330_model.specs.declared.Registers.{Registers}
 use Rattle.pmc330_model.specs.declared.Cycle.{Cycle}
 use Rattle.pmc330_model.specs.declared.Board.{Board}
-use Rattle.pmc330_model.proofs.Cases.{same_or_not, and_right, never}
+use Rattle.pmc330_model.proofs.Cases.{same_or_not, and_right}
 use Rattle.pmc330_model.specs.Jumps.{elapsed_by, jumped}
 use Rattle.pmc330_model.proofs.Jumps.{Within, jump_board, jump_stores, idle_board, idle_stores, stores_most}
 use Rattle.pmc330_model.proofs.Theorems.{advanced_add, stores_add}
-use Rattle.pmc330.specs.Steps.{board_of, begun_scan, stored_scan, stored_codes, stored_unread, step_to, Unmoved, SameFlags}
+use Rattle.pmc330.specs.Steps.{board_with, begun_scan, stored_scan, stored_codes, stored_unread, step_to, SameLoan, Unmoved}
 use Rattle.pmc330.specs.declared.cycle.Scan.{Scan}
+use Rattle.pmc330.specs.declared.held.Core.{Core}
+use Rattle.pmc330.specs.declared.stores.Mailboxes.{Mailboxes}
+use Rattle.pmc330.specs.contracts.held.CorePartialEq.TheImpl as core_eq
 
 module _ (range : ℕ) (r : Registers) (gains : List ℕ) (inputs : List ℤ) where
   abbrev whole : (codes unread : List ℕ) → Scan → Board
-  whole codes unread s = board_of range r gains inputs codes unread s
+  whole codes unread s =
+      board_with (record { range = range; registers = r; pending = s.pending; held = s.held; cycle = s.cycle }) inputs gains codes unread
 
   -- a beginning on the whole board is one on its part
   begun_part : (t : Bool) (codes unread : List ℕ) (s : Scan) → whole codes unread (cond t (begun_scan range r gains inputs s) s) ≡ cond t (begun (whole codes unread s)) (whole codes unread s)
@@ -32,60 +39,48 @@ module _ (range : ℕ) (r : Registers) (gains : List ℕ) (inputs : List ℤ) wh
   begun_part false codes unread s = refl
 
   jump_parts :
-      (changed due begins : Bool) (codes unread : List ℕ) (s : Scan)
+      (due begins : Bool) (codes unread : List ℕ) (s : Scan)
       → whole (cond due (stored_codes r s codes) codes) (cond due (stored_unread s unread) unread)
-      (cond (begins && (cond due (stored_scan changed r s) s).cycle.running) (begun_scan range r gains inputs (cond due (stored_scan changed r s) s)) (cond due (stored_scan changed r s) s))
+      (cond (begins && (cond due (stored_scan r s) s).cycle.running) (begun_scan range r gains inputs (cond due (stored_scan r s) s)) (cond due (stored_scan r s) s))
       ≡ begun_if_due begins (stored_if_due due (whole codes unread s))
   unfolding stored
-  jump_parts changed true begins codes unread s =
-      begun_part (begins && (stored_scan changed r s).cycle.running) (stored_codes r s codes) (stored_unread s unread) (stored_scan changed r s)
-  jump_parts changed false begins codes unread s = begun_part (begins && s.cycle.running) codes unread s
+  jump_parts true begins codes unread s =
+      begun_part (begins && (stored_scan r s).cycle.running) (stored_codes r s codes) (stored_unread s unread) (stored_scan r s)
+  jump_parts false begins codes unread s = begun_part (begins && s.cycle.running) codes unread s
 
   -- what the code's steps give, put together
   pub jump_is :
       (n : ℕ) (codes unread : List ℕ) (s : Scan) (cycle : Cycle) (mid last : Scan) (codes' unread' : List ℕ)
       → cycle ≡ elapsed_by n s.cycle
-      → mid ≡ cond (eqb s.cycle.lag n) (stored_scan mid.changed r (record { changed = s.changed; pending = s.pending; held = s.held; cycle = cycle })) (record { changed = s.changed; pending = s.pending; held = s.held; cycle = cycle })
-      → codes' ≡ cond (eqb s.cycle.lag n) (stored_codes r (record { changed = s.changed; pending = s.pending; held = s.held; cycle = cycle }) codes) codes
-      → unread' ≡ cond (eqb s.cycle.lag n) (stored_unread (record { changed = s.changed; pending = s.pending; held = s.held; cycle = cycle }) unread) unread
+      → mid ≡ cond (eqb s.cycle.lag n) (stored_scan r (record { pending = s.pending; held = s.held; cycle = cycle })) (record { pending = s.pending; held = s.held; cycle = cycle })
+      → codes' ≡ cond (eqb s.cycle.lag n) (stored_codes r (record { pending = s.pending; held = s.held; cycle = cycle }) codes) codes
+      → unread' ≡ cond (eqb s.cycle.lag n) (stored_unread (record { pending = s.pending; held = s.held; cycle = cycle }) unread) unread
       → last ≡ cond (eqb s.cycle.lead n && mid.cycle.running) (begun_scan range r gains inputs mid) mid
       → whole codes' unread' last ≡ jumped n (whole codes unread s)
   jump_is n codes unread s cycle mid last codes' unread' e-cycle e-mid e-codes e-unread e-last =
-      let p : Cycle → Scan = λ c. record { changed = s.changed; pending = s.pending; held = s.held; cycle = c } in
-      let f : Bool = mid.changed in
+      let p : Cycle → Scan = λ c. record { pending = s.pending; held = s.held; cycle = c } in
       let due : Bool = eqb s.cycle.lag n in
       let begins : Bool = eqb s.cycle.lead n in
       ap (whole codes' unread') e-last
       ∙ ap (λ (m : Scan). whole codes' unread' (cond (begins && m.cycle.running) (begun_scan range r gains inputs m) m)) e-mid
-      ∙ ap₂ (λ (cs us : List ℕ). whole cs us (cond (begins && (cond due (stored_scan f r (p cycle)) (p cycle)).cycle.running) (begun_scan range r gains inputs (cond due (stored_scan f r (p cycle)) (p cycle))) (cond due (stored_scan f r (p cycle)) (p cycle)))) e-codes e-unread
-      ∙ jump_parts f due begins codes unread (p cycle)
+      ∙ ap₂ (λ (cs us : List ℕ). whole cs us (cond (begins && (cond due (stored_scan r (p cycle)) (p cycle)).cycle.running) (begun_scan range r gains inputs (cond due (stored_scan r (p cycle)) (p cycle))) (cond due (stored_scan r (p cycle)) (p cycle)))) e-codes e-unread
+      ∙ jump_parts due begins codes unread (p cycle)
       ∙ ap (λ (c : Cycle). begun_if_due begins (stored_if_due due (whole codes unread (p c)))) e-cycle
-
--- a beginning keeps the flag
-pub begun_flag :
-    (range : ℕ) (r : Registers) (gains : List ℕ) (inputs : List ℤ) (t : Bool) (s : Scan)
-    → (cond t (begun_scan range r gains inputs s) s).changed ≡ s.changed
-begun_flag range r gains inputs true s = refl
-begun_flag range r gains inputs false s = refl
-
--- neither this store has changed anything nor one before it
-pub no_change :
-    {codes codes' unread unread' : List ℕ} (before changes : Bool) → (before || changes) ≡ false
-    → (changes ≡ false → Unmoved false codes codes' unread unread') → Unmoved before codes codes' unread unread'
-no_change true changes e same = never true refl e
-no_change false changes e same = same e
 
 -- nothing has moved in two steps, one after the other
 pub unmoved_then :
-    {flag : Bool} {codes codes' codes'' unread unread' unread'' : List ℕ} (mid : Bool) → (mid ≡ false → Unmoved flag codes codes' unread unread')
-    → Unmoved mid codes' codes'' unread' unread'' → Unmoved flag codes codes'' unread unread''
-unmoved_then mid first later =
-    let earlier = first later.before in
+    {boxes boxes' boxes'' : Mailboxes} → (boxes'.changed ≡ false → Unmoved boxes boxes') → Unmoved boxes' boxes'' → Unmoved boxes boxes''
+unmoved_then first later =
+    let earlier = first later.none_before in
     record {
-      before = earlier.before;
-      same_codes = later.same_codes ∙ earlier.same_codes;
-      same_unread = later.same_unread ∙ earlier.same_unread;
+      none_before = earlier.none_before;
+      codes = later.codes ∙ earlier.codes;
+      unread = later.unread ∙ earlier.unread;
     }
+
+-- the same arrays are lent all along
+pub loan_then : {boxes boxes' boxes'' : Mailboxes} → SameLoan boxes boxes' → SameLoan boxes' boxes'' → SameLoan boxes boxes''
+loan_then first later = record { codes = later.codes ∙ first.codes; unread = later.unread ∙ first.unread }
 
 -- ---- the step to the next event
 
@@ -264,23 +259,62 @@ module _ (ticks left made : ℕ) (start now : Board) (underway : Underway ticks 
       first : (more : ℕ) → more ≡ counted → Turn step more
       first more f = subst (Turn step) (sym f) here
 
--- ---- a board that came back to itself
+-- ---- small records that are equal by `==`
 
-pub cycle_same : (a b : Cycle) → a.lead ≡ b.lead → a.lag ≡ b.lag → a.slot ≡ b.slot → a.index ≡ b.index → SameFlags a b → a ≡ b
-cycle_same a b lead lag slot index flags =
+both : (x y : Bool) → (x && y) ≡ true → (x ≡ true) × (y ≡ true)
+both true y h = (refl, h)
+both false y h = absurd (false≢true h)
+
+flag_same : (x y : Bool) → beq x y ≡ true → x ≡ y
+flag_same x y = (booleans_Decides x y).0
+
+cycle_same :
+    (a b : Cycle)
+    → (beq a.running b.running && (eqb a.lead b.lead && (eqb a.lag b.lag && (beq a.waiting b.waiting && (eqb a.slot b.slot && (beq a.ends b.ends && (eqb a.index b.index && beq a.odd b.odd))))))) ≡ true
+    → a ≡ b
+cycle_same a b h =
+    let h1 = both _ _ h in
+    let h2 = both _ _ h1.1 in
+    let h3 = both _ _ h2.1 in
+    let h4 = both _ _ h3.1 in
+    let h5 = both _ _ h4.1 in
+    let h6 = both _ _ h5.1 in
+    let h7 = both _ _ h6.1 in
     λ i.
     record {
-      running = flags.running i;
-      lead = lead i;
-      lag = lag i;
-      waiting = flags.waiting i;
-      slot = slot i;
-      ends = flags.ends i;
-      index = index i;
-      odd = flags.odd i;
+      running = flag_same a.running b.running h1.0 i;
+      lead = eqb-true a.lead b.lead h2.0 i;
+      lag = eqb-true a.lag b.lag h3.0 i;
+      waiting = flag_same a.waiting b.waiting h4.0 i;
+      slot = eqb-true a.slot b.slot h5.0 i;
+      ends = flag_same a.ends b.ends h6.0 i;
+      index = eqb-true a.index b.index h7.0 i;
+      odd = flag_same a.odd b.odd h7.1 i;
     }
 
--- what time does not change
+registers_same :
+    (a b : Registers)
+    → (beq a.enable b.enable && (eqb a.control b.control && (eqb a.prescaler b.prescaler && (eqb a.timer b.timer && (eqb a.start b.start && eqb a.end b.end))))) ≡ true
+    → a ≡ b
+registers_same a b h = search (rules, h)
+
+pub core_same : (a b : Core) → core_eq.ghosts.eq a b ≡ true → a ≡ b
+core_same a b h =
+    let h1 = both _ _ h in
+    let h2 = both _ _ h1.1 in
+    let h3 = both _ _ h2.1 in
+    let h4 = both _ _ h3.1 in
+    λ i.
+    record {
+      range = eqb-true a.range b.range h1.0 i;
+      registers = registers_same a.registers b.registers h2.0 i;
+      pending = flag_same a.pending b.pending h3.0 i;
+      held = eqb-true a.held b.held h4.0 i;
+      cycle = cycle_same a.cycle b.cycle h4.1 i;
+    }
+
+-- ---- what time does not change
+
 pub record Fixed (a b : Board) : Type 0 where
   pub range : a.range ≡ b.range
   pub inputs : a.inputs ≡ b.inputs

@@ -1,20 +1,20 @@
 -- Where the parity of the pass has no effect, a board with its parity turned goes on as it would have, with its parity turned.
 use mathlib.Core.Bool.{Bool, true, false, cond, not, ◌&&◌}
-use mathlib.Core.List.{List}
 use mathlib.Core.Path.{◌≡◌, refl, sym, ap, ap₂, subst, ◌∙◌}
 use Prim.Native.Nat.{ℕ, zero, suc, ◌+◌, ◌*◌, ◌%◌}
 use native.Mathlib.Nat.{zero-mul, suc-mul}
 use lib.Dec.{eqb, leb}
-use lib.IntN.{ℤ}
 use Rattle.pmc330_model.specs.Schedule.{pass_length, is_single, is_differential}
 use Rattle.pmc330_model.specs.Board.{idle_cycle, with_cycle, lead_after, stored, begun, elapsed, is_store_due, is_beginning_due, stored_in_time, stored_if_due, begun_if_due, ticked, advanced, stores_in}
 use Rattle.pmc330_model.specs.declared.Cycle.{Cycle}
 use Rattle.pmc330_model.specs.declared.Board.{Board}
 use Rattle.pmc330_model.proofs.Schedule.{odd_next}
 use Rattle.pmc330_model.proofs.Theorems.{advanced_add, stores_add}
-use Rattle.pmc330.specs.Steps.{board_with, turned_cycle, turned_core, IgnoresParity, Unmoved, SameCore}
+use Rattle.pmc330.specs.Steps.{board_with, board_on, turned_cycle, turned_core, IgnoresParity, Unmoved}
+use Rattle.pmc330.specs.declared.cycle.Channels.{Channels}
 use Rattle.pmc330.specs.declared.held.Core.{Core}
-use Rattle.pmc330.proofs.TimeLaws.{Fixed, ticked_fixed, advanced_fixed}
+use Rattle.pmc330.specs.declared.stores.Mailboxes.{Mailboxes}
+use Rattle.pmc330.proofs.TimeLaws.{ticked_fixed}
 
 abbrev pub turned : (turn : Bool) → Board → Board
 turned turn b = with_cycle b (turned_cycle turn b.cycle)
@@ -166,22 +166,8 @@ module _ (n : ℕ) (b : Board) (turning : IgnoresParity b.registers) (turns : ad
 
 -- a run that changed no mailbox and left the small record as it was, or turned, came back to its board, or to it turned
 pub came_back :
-    (n : ℕ) (turn : Bool) (after before : Core) (inputs : List ℤ) (gains codes codes' unread unread' : List ℕ)
-    → board_with after inputs gains codes' unread' ≡ advanced n (board_with before inputs gains codes unread)
-    → Unmoved false codes codes' unread unread' → SameCore after (turned_core turn before)
-    → board_with after inputs gains codes' unread' ≡ turned turn (board_with before inputs gains codes unread)
-came_back n turn after before inputs gains codes codes' unread unread' is same core =
-    let fixed : Fixed (board_with after inputs gains codes' unread') (board_with before inputs gains codes unread) =
-    subst (λ (b : Board). Fixed b (board_with before inputs gains codes unread)) (sym is) (advanced_fixed n (board_with before inputs gains codes unread)) in
-    λ i.
-    record {
-      range = fixed.range i;
-      inputs = inputs;
-      gains = gains;
-      codes = same.same_codes i;
-      unread = same.same_unread i;
-      pending = core.pending i;
-      registers = fixed.registers i;
-      held = core.held i;
-      cycle = core.cycle i;
-    }
+    (turn : Bool) (after before : Core) (channels : Channels) (boxes boxes' : Mailboxes)
+    → Unmoved boxes boxes' → after ≡ turned_core turn before
+    → board_on after channels boxes' ≡ turned turn (board_on before channels boxes)
+came_back turn after before channels boxes boxes' same core =
+    λ i. board_with (core i) channels.inputs.now channels.gains.now (same.codes i) (same.unread i)

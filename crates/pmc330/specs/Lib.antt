@@ -1,3 +1,3 @@
-pub mod Classes
+pub mod Fields
 pub mod Widths
 pub mod Steps

@@ -1,25 +1,27 @@
 -- What the code's own steps promise. Nothing that a caller may cite stands here.
-use Rattle.std.specs.Prelude.{ℕ, ◌+◌, ◌%◌, ◌≤◌, min, Bool, true, false, cond, not, ◌&&◌, ◌||◌, List, [], ◌≡◌, eqb, leb, ℤ, get_or, set}
+use Rattle.std.specs.Prelude.{ℕ, ◌+◌, ◌-◌, ◌%◌, min, Bool, true, false, cond, not, ◌&&◌, ◌||◌, List, [], ◌≡◌, eqb, leb, ℤ, get_or, set}
 use Rattle.pmc330_model.specs.Words.{View}
 use Rattle.pmc330_model.specs.Lent.{flag_at, byte_at, half_at, registers_in, cycle_in, words_of}
-use Rattle.pmc330_model.specs.Schedule.{pass_length, is_differential, is_single, code_at, formatted_by, is_interrupting}
+use Rattle.pmc330_model.specs.Schedule.{is_differential, is_single, code_at, formatted_by, is_interrupting}
 use Rattle.pmc330_model.specs.Board.{idle_cycle, lead_after, begun_cycle, stored_cycle, advanced, stores_in}
 use Rattle.pmc330_model.specs.declared.Registers.{Registers}
 use Rattle.pmc330_model.specs.declared.Cycle.{Cycle}
 use Rattle.pmc330_model.specs.declared.Board.{Board}
+use Rattle.pmc330.specs.declared.cycle.Channels.{Channels}
 use Rattle.pmc330.specs.declared.cycle.Plan.{Plan}
 use Rattle.pmc330.specs.declared.cycle.Scan.{Scan}
 use Rattle.pmc330.specs.declared.held.Core.{Core}
+use Rattle.pmc330.specs.declared.stores.Mailboxes.{Mailboxes}
 
 -- a board put together again from what stays and what changes as time passes
-abbrev pub board_of : (range : ℕ) → Registers → (gains : List ℕ) (inputs : List ℤ) (codes unread : List ℕ) → Scan → Board
-board_of range r gains inputs codes unread s =
+abbrev pub board_of : (range : ℕ) → Registers → Channels → Mailboxes → Scan → Board
+board_of range r channels boxes s =
     record {
       range = range;
-      inputs = inputs;
-      gains = gains;
-      codes = codes;
-      unread = unread;
+      inputs = channels.inputs.now;
+      gains = channels.gains.now;
+      codes = boxes.codes.now;
+      unread = boxes.unread.now;
       pending = s.pending;
       registers = r;
       held = s.held;
@@ -40,6 +42,15 @@ board_with c inputs gains codes unread =
       held = c.held;
       cycle = c.cycle;
     }
+
+-- where its arrays are lent
+abbrev pub board_on : Core → Channels → Mailboxes → Board
+board_on c channels boxes = board_with c channels.inputs.now channels.gains.now boxes.codes.now boxes.unread.now
+
+-- the same two arrays are lent as before
+pub record SameLoan (before after : Mailboxes) : Type 0 where
+  pub codes : after.codes.ghost_name ≡ before.codes.ghost_name
+  pub unread : after.unread.ghost_name ≡ before.unread.ghost_name
 
 -- the small record that 17 words hold, and its words
 abbrev pub core_in : (words : List ℕ) → Core
@@ -76,17 +87,12 @@ abbrev pub plan_of : Registers → Plan
 plan_of r =
     record {
       start = r.start;
-      length = pass_length r;
+      last_place = r.end - r.start;
       step = lead_after r false;
-      last = lead_after r true;
+      last_step = lead_after r true;
       single = is_single r;
       differential = is_differential r;
     }
-
--- a plan is that of the registers, and its passes are short enough for a byte to count
-pub record Planned (r : Registers) (p : Plan) : Type 0 where
-  pub is : p ≡ plan_of r
-  pub short : p.length ≤ 256
 
 abbrev pub slot_by : Plan → (index : ℕ) (odd : Bool) → ℕ
 slot_by p index odd = (p.start + index + cond (p.differential && odd) 16 0) % 32
@@ -94,10 +100,10 @@ slot_by p index odd = (p.start + index + cond (p.differential && odd) 16 0) % 32
 -- the cycle after a beginning, and after a store, by the plan
 abbrev pub begun_by : Plan → Cycle → Cycle
 begun_by p c =
-    let ends : Bool = leb p.length (c.index + 1) in
+    let ends : Bool = leb p.last_place c.index in
     record {
       running = c.running;
-      lead = cond ends p.last p.step;
+      lead = cond ends p.last_step p.step;
       lag = 64;
       waiting = true;
       slot = slot_by p c.index c.odd;
@@ -126,17 +132,15 @@ stored_by p c =
 abbrev pub begun_scan : (range : ℕ) → Registers → (gains : List ℕ) (inputs : List ℤ) → Scan → Scan
 begun_scan range r gains inputs s =
     record {
-      changed = s.changed;
       pending = s.pending;
       held = code_at range r gains inputs ((r.start + s.cycle.index) % 32);
       cycle = begun_cycle r s.cycle;
     }
 
 -- a store in time, but for the mailboxes
-abbrev pub stored_scan : (changed : Bool) → Registers → Scan → Scan
-stored_scan changed r s =
+abbrev pub stored_scan : Registers → Scan → Scan
+stored_scan r s =
     record {
-      changed = changed;
       pending = s.pending || is_interrupting r s.cycle.ends;
       held = s.held;
       cycle = stored_cycle r s.cycle;
@@ -170,10 +174,10 @@ stored_core c ends =
     }
 
 -- no mailbox and no count has changed, and none had before
-pub record Unmoved (changed : Bool) (codes codes_after unread unread_after : List ℕ) : Type 0 where
-  pub before : changed ≡ false
-  pub same_codes : codes_after ≡ codes
-  pub same_unread : unread_after ≡ unread
+pub record Unmoved (before after : Mailboxes) : Type 0 where
+  pub none_before : before.changed ≡ false
+  pub codes : after.codes.now ≡ before.codes.now
+  pub unread : after.unread.now ≡ before.unread.now
 
 -- the ticks to the end of a countdown, if one runs, and at most `left`
 abbrev pub step_to : (count left : ℕ) → ℕ
@@ -183,18 +187,6 @@ step_to count left = cond (eqb count 0) left (min count left)
 pub record RunOf (n : ℕ) (b next : Board) (stores : ℕ) : Type 0 where
   pub board : next ≡ advanced n b
   pub count : stores ≡ stores_in n b
-
--- what the code compares to see that a board came back to itself
-pub record SameFlags (a b : Cycle) : Type 0 where
-  pub running : a.running ≡ b.running
-  pub waiting : a.waiting ≡ b.waiting
-  pub ends : a.ends ≡ b.ends
-  pub odd : a.odd ≡ b.odd
-
-pub record SameCore (a b : Core) : Type 0 where
-  pub held : a.held ≡ b.held
-  pub cycle : a.cycle ≡ b.cycle
-  pub pending : a.pending ≡ b.pending
 
 -- ---- the parity of a pass
 

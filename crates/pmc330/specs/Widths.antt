@@ -1,6 +1,25 @@
--- The three widths, as the code has them. Nothing that a caller may cite stands here.
-use Rattle.std.specs.Prelude.{ℕ, cond, eqb}
+-- The three widths, as the code has them, and an access that has one. Nothing that a caller may cite stands here.
+use Rattle.std.specs.Prelude.{ℕ, cond, eqb, ◌≡◌, Result, Ok, Err}
+use Rattle.analog.specs.Answers.{asked}
+use Rattle.analog.specs.declared.Refusal.{Refusal}
+use Rattle.analog.specs.declared.Refusal.TheVariants.{BadWidth}
+use Rattle.pmc330_model.specs.Map.{class_of}
+use Rattle.pmc330_model.specs.Questions.{access_questions}
+use Rattle.pmc330.specs.declared.widths.Width.{Width}
+use Rattle.pmc330.specs.declared.widths.Width.TheVariants.{Byte, Half, Word}
+use Rattle.pmc330.specs.declared.questions.Access.{Access}
 
--- 2 to the width; any other width counts as 32
-abbrev pub power_of : ℕ → ℕ
-power_of width = cond (eqb width 8) 0x100 (cond (eqb width 16) 0x10000 0x100000000)
+abbrev pub bits_of : Width → ℕ
+bits_of Byte = 8
+bits_of Half = 16
+bits_of Word = 32
+
+-- the width of so many bits, or question 1's refusal
+abbrev pub width_of : (bits : ℕ) → Result Width Refusal
+width_of bits = cond (eqb bits 8) (Ok Byte) (cond (eqb bits 16) (Ok Half) (cond (eqb bits 32) (Ok Word) (Err BadWidth)))
+
+-- what an access holds, of which questions 1 to 3 are met
+pub record IsAccess (bits at : ℕ) (a : Access) : Type 0 where
+  pub width : bits_of a.width ≡ bits
+  pub register : a.register ≡ class_of at
+  pub met : asked (access_questions bits at (class_of at)) ≡ Ok record {}

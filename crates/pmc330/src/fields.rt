@@ -1,38 +1,97 @@
 // The fields of Control, and what the registers say of a scan.
-ghost use Rattle.std.specs.Prelude.{◌||◌, ◌≡◌, eqb};
-ghost use Rattle.pmc330_model.specs.Map.{is_straight, trigger_field, acquisition_field, scan_field, is_timer_enabled, interrupt_field};
+ghost use Rattle.std.specs.Prelude.{◌≡◌, eqb};
+ghost use Rattle.pmc330_model.specs.Map.{is_straight, trigger_field, scan_field, is_timer_enabled};
 ghost use Rattle.pmc330_model.specs.Schedule.{pass_length, interval, is_differential, is_uniform, is_burst, is_single, is_timed, is_trigger_only, is_interrupting, burst_delay};
+ghost use Rattle.pmc330.specs.Fields.{scan_mode, trigger, acquisition, interrupt_on};
 
 use pmc330_model::Registers;
 
-pub(crate) fn wide(n: u8) -> u32
-    ensures { result ≡ n }
-{
-    n as u32
+// What the fields of Control say. A code that is not used says nothing: no call writes one, but words that C lends may hold it.
+#[derive(Clone, Copy, Debug, PartialEq, Eq)]
+pub enum ScanMode {
+    Off,
+    UniformContinuous,
+    UniformSingle,
+    BurstContinuous,
+    BurstSingle,
+    TriggerOnly,
 }
 
-pub(crate) fn trigger_field(control: u16) -> u16
-    ensures { result ≡ trigger_field control }
-{
-    control / 2 % 4
+#[derive(Clone, Copy, Debug, PartialEq, Eq)]
+pub enum Trigger {
+    Off,
+    Input,
+    Output,
 }
 
-pub(crate) fn acquisition_field(control: u16) -> u16
-    ensures { result ≡ acquisition_field control }
-{
-    control / 8 % 8
+#[derive(Clone, Copy, Debug, PartialEq, Eq)]
+pub enum Acquisition {
+    Differential,
+    SingleEnded,
+    // the code, by which `analog` finds the voltage
+    Calibration(u32),
 }
 
-pub(crate) fn scan_field(control: u16) -> u16
-    ensures { result ≡ scan_field control }
-{
-    control / 0x100 % 8
+#[derive(Clone, Copy, Debug, PartialEq, Eq)]
+pub enum InterruptOn {
+    NoStore,
+    EachStore,
+    LastStore,
 }
 
-pub(crate) fn interrupt_field(control: u16) -> u16
-    ensures { result ≡ interrupt_field control }
-{
-    control / 0x1000 % 4
+impl ScanMode {
+    pub(crate) fn of(control: u16) -> Option<Self>
+        ensures { result ≡ scan_mode control }
+    {
+        match control / 0x100 % 8 {
+            0 => Some(ScanMode::Off),
+            1 => Some(ScanMode::UniformContinuous),
+            2 => Some(ScanMode::UniformSingle),
+            3 => Some(ScanMode::BurstContinuous),
+            4 => Some(ScanMode::BurstSingle),
+            5 => Some(ScanMode::TriggerOnly),
+            _ => None,
+        }
+    }
+}
+
+impl Trigger {
+    pub(crate) fn of(control: u16) -> Option<Self>
+        ensures { result ≡ trigger control }
+    {
+        match control / 2 % 4 {
+            0 => Some(Trigger::Off),
+            1 => Some(Trigger::Input),
+            2 => Some(Trigger::Output),
+            _ => None,
+        }
+    }
+}
+
+impl Acquisition {
+    pub(crate) fn of(control: u16) -> Option<Self>
+        ensures { result ≡ acquisition control }
+    {
+        match control / 8 % 8 {
+            0 => Some(Acquisition::Differential),
+            1 => Some(Acquisition::SingleEnded),
+            2 => None,
+            code => Some(Acquisition::Calibration(u32::from(code))),
+        }
+    }
+}
+
+impl InterruptOn {
+    pub(crate) fn of(control: u16) -> Option<Self>
+        ensures { result ≡ interrupt_on control }
+    {
+        match control / 0x1000 % 4 {
+            0 => Some(InterruptOn::NoStore),
+            1 => Some(InterruptOn::EachStore),
+            2 => Some(InterruptOn::LastStore),
+            _ => None,
+        }
+    }
 }
 
 pub(crate) fn is_straight(control: u16) -> bool
@@ -47,94 +106,95 @@ pub(crate) fn is_timer_enabled(control: u16) -> bool
     control / 0x800 % 2 == 1
 }
 
-fn is_either(scan: u16, one: u16, other: u16) -> bool
-    ensures { result ≡ (eqb scan one || eqb scan other) }
+// Whether no scan is chosen, as a stop leaves it.
+pub(crate) fn is_off(r: Registers) -> bool
+    ensures { result ≡ eqb (scan_field r.control) 0 }
 {
-    if scan == one {
-        return true;
-    }
-    scan == other
+    ScanMode::of(r.control) == Some(ScanMode::Off)
 }
 
 pub(crate) fn is_differential(r: Registers) -> bool
     ensures { result ≡ is_differential r }
 {
-    acquisition_field(r.control) == 0
+    Acquisition::of(r.control) == Some(Acquisition::Differential)
 }
 
 pub(crate) fn is_uniform(r: Registers) -> bool
     ensures { result ≡ is_uniform r }
 {
-    is_either(scan_field(r.control), 1, 2)
+    matches!(
+        ScanMode::of(r.control),
+        Some(ScanMode::UniformContinuous | ScanMode::UniformSingle)
+    )
 }
 
 pub(crate) fn is_burst(r: Registers) -> bool
     ensures { result ≡ is_burst r }
 {
-    is_either(scan_field(r.control), 3, 4)
+    matches!(
+        ScanMode::of(r.control),
+        Some(ScanMode::BurstContinuous | ScanMode::BurstSingle)
+    )
 }
 
 pub(crate) fn is_single(r: Registers) -> bool
     ensures { result ≡ is_single r }
 {
-    is_either(scan_field(r.control), 2, 4)
+    matches!(
+        ScanMode::of(r.control),
+        Some(ScanMode::UniformSingle | ScanMode::BurstSingle)
+    )
 }
 
 pub(crate) fn is_timed(r: Registers) -> bool
     ensures { result ≡ is_timed r }
 {
-    if is_uniform(r) {
-        return true;
-    }
-    is_burst(r)
+    is_uniform(r) || is_burst(r)
+}
+
+// Whether a trigger from outside counts.
+pub(crate) fn takes_triggers(r: Registers) -> bool
+    ensures { result ≡ eqb (trigger_field r.control) 1 }
+{
+    Trigger::of(r.control) == Some(Trigger::Input)
 }
 
 pub(crate) fn is_trigger_only(r: Registers) -> bool
     ensures { result ≡ is_trigger_only r }
 {
-    scan_field(r.control) == 5
+    ScanMode::of(r.control) == Some(ScanMode::TriggerOnly)
 }
 
 // The conversions of a pass.
 pub(crate) fn pass_length(r: Registers) -> u32
     ensures { result ≡ pass_length r }
 {
-    let start = r.start as u32;
-    let end = r.end as u32;
-    if end < start {
-        return 1;
-    }
-    end - start + 1
+    u32::from(r.end.saturating_sub(r.start)) + 1
 }
 
 pub(crate) fn interval_of(r: Registers) -> u32
     ensures { result ≡ interval r }
 {
-    (r.prescaler as u32) * (r.timer as u32)
+    u32::from(r.prescaler) * u32::from(r.timer)
 }
 
 pub(crate) fn burst_delay(r: Registers) -> u32
     ensures { result ≡ burst_delay r }
 {
-    if scan_field(r.control) != 3 {
-        return 0;
+    if ScanMode::of(r.control) == Some(ScanMode::BurstContinuous) && is_timer_enabled(r.control) {
+        interval_of(r)
+    } else {
+        0
     }
-    if !is_timer_enabled(r.control) {
-        return 0;
-    }
-    interval_of(r)
 }
 
 // Whether a store raises an interrupt.
 pub(crate) fn is_interrupting(r: Registers, ends: bool) -> bool
     ensures { result ≡ is_interrupting r ends }
 {
-    let choice = interrupt_field(r.control);
-    if choice == 1 {
-        return true;
+    match InterruptOn::of(r.control) {
+        Some(InterruptOn::EachStore) => true,
+        Some(InterruptOn::LastStore) => ends,
+        _ => false,
     }
-    if choice == 2 {
-        return ends;
-    }
-    false
 }

@@ -1,13 +1,13 @@
 // The board but for its four arrays: a small record, and the 17 words that hold it where a board is lent.
 ghost use Rattle.std.specs.Prelude.{not, ◌≡◌, ◌%◌, eqb};
 ghost use Rattle.pmc330_model.specs.Words.{to_bit};
-ghost use Rattle.pmc330_model.specs.Lent.{registers_in, cycle_in, board_in, words_of};
-ghost use Rattle.pmc330.specs.Steps.{core_in, words_with};
+ghost use Rattle.pmc330_model.specs.Lent.{registers_in, cycle_in, board_in};
+ghost use Rattle.pmc330.specs.Steps.{core_in, core_of, words_with};
 
 use pmc330_model::{Board, Cycle, Registers};
 
 // The small record of a board, passed by value.
-#[derive(Clone, Copy)]
+#[derive(Clone, Copy, Debug, PartialEq, Eq)]
 pub struct Core {
     pub range: u8,
     pub registers: Registers,
@@ -17,43 +17,16 @@ pub struct Core {
     pub cycle: Cycle,
 }
 
-fn byte(word: u32) -> u8
-    ensures { result ≡ word % 0x100 }
-{
-    (word % 0x100) as u8
-}
-
-fn half(word: u32) -> u16
-    ensures { result ≡ word % 0x10000 }
-{
-    (word % 0x10000) as u16
-}
-
-fn flag(word: u32) -> bool
-    ensures { result ≡ not (eqb word 0) }
-{
-    word != 0
-}
-
-fn bit(b: bool) -> u32
-    ensures { result ≡ to_bit b }
-{
-    if b {
-        return 1;
-    }
-    0
-}
-
 fn registers_of(words: &[u32; 17]) -> Registers
     ensures { result ≡ registers_in words.now }
 {
     Registers {
-        enable: flag(words[1]),
-        control: half(words[2]),
-        prescaler: byte(words[3]),
-        timer: half(words[4]),
-        start: byte(words[5]),
-        end: byte(words[6]),
+        enable: words[1] != 0,
+        control: (words[2] % 0x10000) as u16,
+        prescaler: (words[3] % 0x100) as u8,
+        timer: (words[4] % 0x10000) as u16,
+        start: (words[5] % 0x100) as u8,
+        end: (words[6] % 0x100) as u8,
     }
 }
 
@@ -61,72 +34,74 @@ fn cycle_of(words: &[u32; 17]) -> Cycle
     ensures { result ≡ cycle_in words.now }
 {
     Cycle {
-        running: flag(words[9]),
+        running: words[9] != 0,
         lead: words[10],
         lag: words[11],
-        waiting: flag(words[12]),
-        slot: byte(words[13]),
-        ends: flag(words[14]),
-        index: byte(words[15]),
-        odd: flag(words[16]),
+        waiting: words[12] != 0,
+        slot: (words[13] % 0x100) as u8,
+        ends: words[14] != 0,
+        index: (words[15] % 0x100) as u8,
+        odd: words[16] != 0,
     }
 }
 
 // The small record that the words hold.
-pub(crate) fn core_of(words: &[u32; 17]) -> Core
-    ensures { result ≡ core_in words.now }
-{
-    let registers = registers_of(words);
-    let cycle = cycle_of(words);
-    Core {
-        range: byte(words[0]),
-        registers,
-        pending: flag(words[7]),
-        held: half(words[8]),
-        cycle,
+impl From<&[u32; 17]> for Core {
+    ghost from_gives = { λ words core. core ≡ core_in words.now };
+
+    fn from(words: &[u32; 17]) -> Core {
+        Core {
+            range: (words[0] % 0x100) as u8,
+            registers: registers_of(words),
+            pending: words[7] != 0,
+            held: (words[8] % 0x10000) as u16,
+            cycle: cycle_of(words),
+        }
+    }
+}
+
+// The small record of a board.
+impl From<Board> for Core {
+    ghost from_gives = { λ b core. core ≡ core_of b };
+
+    fn from(b: Board) -> Core {
+        Core {
+            range: b.range,
+            registers: b.registers,
+            pending: b.pending,
+            held: b.held,
+            cycle: b.cycle,
+        }
     }
 }
 
 // The words that hold a small record.
-pub(crate) fn words_of(core: Core) -> [u32; 17]
-    ensures { result ≡ words_with core }
-{
-    let r = core.registers;
-    let c = core.cycle;
-    [
-        core.range as u32,
-        bit(r.enable),
-        r.control as u32,
-        r.prescaler as u32,
-        r.timer as u32,
-        r.start as u32,
-        r.end as u32,
-        bit(core.pending),
-        core.held as u32,
-        bit(c.running),
-        c.lead,
-        c.lag,
-        bit(c.waiting),
-        c.slot as u32,
-        bit(c.ends),
-        c.index as u32,
-        bit(c.odd),
-    ]
-}
+impl From<Core> for [u32; 17] {
+    ghost from_gives = { λ core words. words ≡ words_with core };
 
-// The words of a board.
-pub(crate) fn taken_apart(b: Board) -> [u32; 17]
-    ensures { result ≡ words_of b }
-{
-    let registers = b.registers;
-    let cycle = b.cycle;
-    words_of(Core {
-        range: b.range,
-        registers,
-        pending: b.pending,
-        held: b.held,
-        cycle,
-    })
+    fn from(core: Core) -> [u32; 17] {
+        let r = core.registers;
+        let c = core.cycle;
+        [
+            u32::from(core.range),
+            u32::from(r.enable),
+            u32::from(r.control),
+            u32::from(r.prescaler),
+            u32::from(r.timer),
+            u32::from(r.start),
+            u32::from(r.end),
+            u32::from(core.pending),
+            u32::from(core.held),
+            u32::from(c.running),
+            c.lead,
+            c.lag,
+            u32::from(c.waiting),
+            u32::from(c.slot),
+            u32::from(c.ends),
+            u32::from(c.index),
+            u32::from(c.odd),
+        ]
+    }
 }
 
 // The board that lent parts hold.
@@ -139,9 +114,7 @@ pub(crate) fn put_together(
 ) -> Board
     ensures { result ≡ board_in words.now inputs gains codes unread }
 {
-    let core = core_of(words);
-    let registers = core.registers;
-    let cycle = core.cycle;
+    let core = Core::from(words);
     Board {
         range: core.range,
         inputs,
@@ -149,8 +122,8 @@ pub(crate) fn put_together(
         codes,
         unread,
         pending: core.pending,
-        registers,
+        registers: core.registers,
         held: core.held,
-        cycle,
+        cycle: core.cycle,
     }
 }

@@ -1,17 +1,19 @@
 // The calls in place, on a board that is lent in parts: its four arrays, and 17 words that hold the rest.
 // What a call changes is lent for change; the rest of the board is lent to be read, but for a look and a clear, which are
-// lent no more than they need.
+// lent no more than they need. The arrays are parameters of their own, since C lends each for reading or for change.
 ghost use Rattle.std.specs.Prelude.{◌&&◌, cond, not, List, ◌≡◌, ℕ, ◌<◌, ℤ, set};
-ghost use Rattle.pmc330_model.specs.Board.{idle_cycle, after_write, read_call, write_call, input_call, advance_call, trigger_call, reset_call, look_call, clear_call, request_line, next_store};
+ghost use Rattle.pmc330_model.specs.Board.{idle_cycle, after_write, read_call, write_call, input_call, advance_call, trigger_call, reset_call, look_call, clear_call, request_line, next_store, if_any};
 ghost use Rattle.pmc330_model.specs.Map.{if_mailbox};
 ghost use Rattle.pmc330_model.specs.Lent.{board_in, words_after, open_call};
-ghost use Rattle.pmc330.specs.Classes.{register_of};
 ghost use Rattle.pmc330.specs.Steps.{board_with};
 
+use crate::cycle::Channels;
 use crate::held::Core;
-use crate::{cycle, held, map, questions, starts, time, upcoming, words as map_words};
-use analog::Answer;
-use pmc330_model::Cycle;
+use crate::questions::Access;
+use crate::stores::Mailboxes;
+use crate::{cycle, questions, starts, time, upcoming, words as map_words};
+use analog::{Answer, Refusal};
+use pmc330_model::Register;
 
 // A new board of a range, in place of what was lent. A refusal leaves that.
 pub fn new(
@@ -27,27 +29,25 @@ pub fn new(
     ensures words { words.new ≡ words_after (open_call (board_in words.old inputs.old gains.old codes.old unread.old) range) words.old }
 {
     if 3 < range {
-        return Answer::Refused(14);
+        return Err(Refusal::BadRange);
     }
-    *words = [0u32; 17];
+    *words = [0; 17];
     words[0] = range;
-    *inputs = [0i32; 32];
-    *gains = [0u8; 32];
-    *codes = [0u16; 32];
-    *unread = [0u8; 32];
-    Answer::Accepted(0)
+    *inputs = [0; 32];
+    *gains = [0; 32];
+    *codes = [0; 32];
+    *unread = [0; 32];
+    Ok(0)
 }
 
 // A mailbox read clears the slot's New and Missed bits.
-fn after_read(unread: &mut [u8; 32], class: u8)
-    ensures { unread.new ≡ if_mailbox (register_of class) (λ slot. set unread.old slot 0) unread.old }
+fn after_read(unread: &mut [u8; 32], register: Register)
+    ensures { unread.new ≡ if_mailbox register (λ slot. set unread.old slot 0) unread.old }
 {
-    if class < 32 {
-        return;
-    }
-    if class < 64 {
-        let slot = (class - 32) as usize;
-        unread[slot] = 0;
+    if let Register::Mailbox(slot) = register {
+        if slot < 32 {
+            unread[usize::from(slot)] = 0;
+        }
     }
 }
 
@@ -64,35 +64,13 @@ pub fn read(
     ensures answer { result ≡ (read_call (board_in words.now inputs.now gains.now codes.now unread.old) width offset).answer }
     ensures board { board_in words.now inputs.now gains.now codes.now unread.new ≡ (read_call (board_in words.now inputs.now gains.now codes.now unread.old) width offset).board }
 {
-    let class = map::class_at(offset);
-    let number = questions::read_number(width, offset, class);
-    if number != 0 {
-        return Answer::Refused(number);
-    }
-    let core = held::core_of(words);
-    let r = core.registers;
-    let word = map_words::read_word(r, core.pending, gains, codes, unread, class);
-    let value = map_words::read_bytes(width, offset, word);
-    after_read(unread, class);
-    Answer::Accepted(value)
-}
-
-fn kept(pending: bool, releases: bool) -> bool
-    ensures { result ≡ (pending && not releases) }
-{
-    if pending {
-        return !releases;
-    }
-    false
-}
-
-fn cycle_after(stops: bool, c: Cycle) -> Cycle
-    ensures { result ≡ cond stops idle_cycle c }
-{
-    if stops {
-        return cycle::idle_cycle();
-    }
-    c
+    let access = Access::of(width, offset)?;
+    let register = access.register;
+    questions::of_read(register)?;
+    let core = Core::from(words);
+    let word = map_words::read_word(core.registers, core.pending, gains, codes, unread, register);
+    after_read(unread, register);
+    Ok(map_words::read_bytes(access.width, offset, word))
 }
 
 // An accepted write of a word. The codes stay, whatever they are.
@@ -101,27 +79,25 @@ fn after_write(
     inputs: &[i32; 32],
     gains: &mut [u8; 32],
     unread: &mut [u8; 32],
-    class: u8,
+    register: Register,
     word: u32,
 ) -> Core
     requires { word < 65536 }
-    ensures { (codes : List ℕ) → board_with result inputs.now gains.new codes unread.new ≡ after_write (register_of class) word (board_with core inputs.now gains.old codes unread.old) }
+    ensures { (codes : List ℕ) → board_with result inputs.now gains.new codes unread.new ≡ after_write register word (board_with core inputs.now gains.old codes unread.old) }
 {
-    let r = core.registers;
-    let registers = map_words::with_word(class, word, r);
-    map_words::gains_with(gains, class, word);
-    let pending = kept(core.pending, map_words::is_release(class, word));
-    let c = core.cycle;
-    let cycle = cycle_after(map_words::is_stop(class, word), c);
+    map_words::gains_with(gains, register, word);
     let next = Core {
-        range: core.range,
-        registers,
-        pending,
-        held: core.held,
-        cycle,
+        registers: map_words::with_word(register, word, core.registers),
+        pending: core.pending && !map_words::is_release(register, word),
+        cycle: if map_words::is_stop(register, word) {
+            cycle::idle_cycle()
+        } else {
+            core.cycle
+        },
+        ..core
     };
-    if map_words::is_start(class, word) {
-        return starts::started(next, inputs, gains, unread);
+    if map_words::is_start(register, word) {
+        return starts::started(next, Channels { inputs, gains }, unread);
     }
     next
 }
@@ -141,21 +117,19 @@ pub fn write(
     ensures board { board_in words.new inputs.now gains.new codes.now unread.new ≡ (write_call (board_in words.old inputs.now gains.old codes.now unread.old) width offset value).board }
     ensures words { words.new ≡ words_after (write_call (board_in words.old inputs.now gains.old codes.now unread.old) width offset value) words.old }
 {
-    let class = map::class_at(offset);
-    let core = held::core_of(words);
+    let access = Access::of(width, offset)?;
+    let register = access.register;
+    let core = Core::from(&*words);
     let r = core.registers;
-    let old = map_words::held_word(r, gains, class);
-    let word = map_words::written_word(width, offset, value, old);
-    let resulting = map_words::with_word(class, word, r);
-    let c = core.cycle;
-    let idle = !c.running;
-    let number = questions::write_number(r, idle, width, offset, value, class, word, resulting);
-    if number != 0 {
-        return Answer::Refused(number);
-    }
-    let next = after_write(core, inputs, gains, unread, class, word);
-    *words = held::words_of(next);
-    Answer::Accepted(0)
+    let old = map_words::held_word(r, gains, register);
+    let word = map_words::written_word(access.width, offset, value, old);
+    let resulting = map_words::with_word(register, word, r);
+    questions::of_value(access.width, value)?;
+    let idle = !core.cycle.running;
+    questions::of_word(r, idle, register, word, resulting)?;
+    let next = after_write(core, inputs, gains, unread, register, word);
+    *words = next.into();
+    Ok(0)
 }
 
 // A channel's input changes.
@@ -171,13 +145,9 @@ pub fn input(
     ensures answer { result ≡ (input_call (board_in words.now inputs.old gains.now codes.now unread.now) channel microvolts).answer }
     ensures board { board_in words.now inputs.new gains.now codes.now unread.now ≡ (input_call (board_in words.now inputs.old gains.now codes.now unread.now) channel microvolts).board }
 {
-    let number = questions::input_number(channel, microvolts);
-    if number != 0 {
-        return Answer::Refused(number);
-    }
-    let at = (channel % 32) as usize;
-    inputs[at] = microvolts;
-    Answer::Accepted(0)
+    questions::of_input(channel, microvolts)?;
+    inputs[channel as usize] = microvolts;
+    Ok(0)
 }
 
 // Time passes.
@@ -193,14 +163,17 @@ pub fn advance(
     ensures board { board_in words.new inputs.now gains.now codes.new unread.new ≡ (advance_call (board_in words.old inputs.now gains.now codes.old unread.old) ticks).board }
     ensures words { words.new ≡ words_after (advance_call (board_in words.old inputs.now gains.now codes.old unread.old) ticks) words.old }
 {
-    if 16_777_216 < ticks {
-        return Answer::Refused(13);
-    }
-    let core = held::core_of(words);
-    let run = time::advance_by(core, inputs, gains, codes, unread, ticks);
-    let next = run.core;
-    *words = held::words_of(next);
-    Answer::Accepted(run.stores)
+    questions::of_advance(ticks)?;
+    let core = Core::from(&*words);
+    let channels = Channels { inputs, gains };
+    let mut boxes = Mailboxes {
+        codes,
+        unread,
+        changed: false,
+    };
+    let run = time::advance_by(core, channels, &mut boxes, ticks);
+    *words = run.core.into();
+    Ok(run.stores)
 }
 
 // An external trigger.
@@ -215,10 +188,16 @@ pub fn trigger(
     ensures board { board_in words.new inputs.now gains.now codes.new unread.new ≡ (trigger_call (board_in words.old inputs.now gains.now codes.old unread.old)).board }
     ensures words { words.new ≡ words_after (trigger_call (board_in words.old inputs.now gains.now codes.old unread.old)) words.old }
 {
-    let core = held::core_of(words);
-    let next = starts::triggered(core, inputs, gains, codes, unread);
-    *words = held::words_of(next);
-    Answer::Accepted(0) // a trigger is asked nothing
+    let core = Core::from(&*words);
+    let channels = Channels { inputs, gains };
+    let mut boxes = Mailboxes {
+        codes,
+        unread,
+        changed: false,
+    };
+    let next = starts::triggered(core, channels, &mut boxes);
+    *words = next.into();
+    Ok(0) // a trigger is asked nothing
 }
 
 // A reset keeps the range and the inputs.
@@ -234,53 +213,44 @@ pub fn reset(
     ensures words { words.new ≡ words_after (reset_call (board_in words.old inputs.now gains.old codes.old unread.old)) words.old }
 {
     let range = words[0] % 0x100;
-    *words = [0u32; 17];
+    *words = [0; 17];
     words[0] = range;
-    *gains = [0u8; 32];
-    *codes = [0u16; 32];
-    *unread = [0u8; 32];
-    Answer::Accepted(0) // a reset is asked nothing
+    *gains = [0; 32];
+    *codes = [0; 32];
+    *unread = [0; 32];
+    Ok(0) // a reset is asked nothing
 }
 
 // A look at a slot: its code, and its New and Missed bits. It changes nothing, and the other parts do not matter.
 pub fn look(codes: &[u16; 32], unread: &[u8; 32], slot: u32) -> Answer
     ensures { (words : List ℕ) (inputs : List ℤ) (gains : List ℕ) → (result ≡ (look_call (board_in words inputs gains codes.now unread.now) slot).answer) × (board_in words inputs gains codes.now unread.now ≡ (look_call (board_in words inputs gains codes.now unread.now) slot).board) }
 {
-    let number = questions::slot_number(slot);
-    if number != 0 {
-        return Answer::Refused(number);
-    }
-    let at = (slot % 32) as usize;
-    Answer::Accepted(map_words::look_value(codes[at], unread[at]))
+    questions::of_slot(slot)?;
+    let at = slot as usize;
+    Ok(map_words::look_value(codes[at], unread[at]))
 }
 
 // A clear of a slot: its New and Missed bits, as a mailbox read clears them. The other parts do not matter.
 pub fn clear(unread: &mut [u8; 32], slot: u32) -> Answer
     ensures { (words : List ℕ) (inputs : List ℤ) (gains codes : List ℕ) → (result ≡ (clear_call (board_in words inputs gains codes unread.old) slot).answer) × (board_in words inputs gains codes unread.new ≡ (clear_call (board_in words inputs gains codes unread.old) slot).board) }
 {
-    let number = questions::slot_number(slot);
-    if number != 0 {
-        return Answer::Refused(number);
-    }
-    let at = (slot % 32) as usize;
+    questions::of_slot(slot)?;
+    let at = slot as usize;
     unread[at] = 0;
-    Answer::Accepted(0)
+    Ok(0)
 }
 
 // The request line: enable and pending. The arrays do not matter.
 pub fn request_line(words: &[u32; 17]) -> bool
     ensures { (inputs : List ℤ) (gains codes unread : List ℕ) → result ≡ request_line (board_in words.now inputs gains codes unread) }
 {
-    let core = held::core_of(words);
-    if core.registers.enable {
-        return core.pending;
-    }
-    false
+    let core = Core::from(words);
+    core.registers.enable && core.pending
 }
 
-// The ticks to the next store if only time passes, 0 if none is to come. The arrays do not matter.
-pub fn next_store(words: &[u32; 17]) -> u32
-    ensures { (inputs : List ℤ) (gains codes unread : List ℕ) → result ≡ next_store (board_in words.now inputs gains codes unread) }
+// The ticks to the next store if only time passes, if one is to come. The arrays do not matter.
+pub fn next_store(words: &[u32; 17]) -> Option<u32>
+    ensures { (inputs : List ℤ) (gains codes unread : List ℕ) → result ≡ if_any (next_store (board_in words.now inputs gains codes unread)) }
 {
-    upcoming::ticks_to_next_store(held::core_of(words))
+    upcoming::ticks_to_next_store(Core::from(words))
 }

@@ -7,7 +7,9 @@ mod fields;
 mod held;
 pub mod lent;
 mod map;
+pub mod parts;
 mod questions;
+mod running;
 mod starts;
 mod stores;
 mod time;
@@ -16,29 +18,19 @@ mod widths;
 mod words;
 
 ghost use Rattle.std.specs.Prelude.{◌≡◌};
-ghost use Rattle.pmc330_model.specs.Board.{read_call, write_call, input_call, advance_call, trigger_call, reset_call, look_call, clear_call, new_call, request_line, next_store};
+ghost use Rattle.pmc330_model.specs.Board.{read_call, write_call, input_call, advance_call, trigger_call, reset_call, look_call, clear_call, new_call, request_line, next_store, if_any};
 
+use parts::Parts;
 use pmc330_model::{Board, Look, Reply};
 
 // A new board of a range.
 pub fn new(range: u32) -> Reply
     ensures { result ≡ new_call range }
 {
-    let mut words = [0u32; 17];
-    let mut inputs = [0i32; 32];
-    let mut gains = [0u8; 32];
-    let mut codes = [0u16; 32];
-    let mut unread = [0u8; 32];
-    let answer = lent::new(
-        &mut words,
-        &mut inputs,
-        &mut gains,
-        &mut codes,
-        &mut unread,
-        range,
-    );
+    let mut parts = Parts::default();
+    let answer = parts.open(range);
     Reply {
-        board: held::put_together(&words, inputs, gains, codes, unread),
+        board: parts.board(),
         answer,
     }
 }
@@ -47,14 +39,10 @@ pub fn new(range: u32) -> Reply
 pub fn read(b: Board, width: u32, offset: u32) -> Reply
     ensures { result ≡ read_call b width offset }
 {
-    let words = held::taken_apart(b);
-    let inputs = b.inputs;
-    let gains = b.gains;
-    let codes = b.codes;
-    let mut unread = b.unread;
-    let answer = lent::read(&words, &inputs, &gains, &codes, &mut unread, width, offset);
+    let mut parts = Parts::from(b);
+    let answer = parts.read(width, offset);
     Reply {
-        board: held::put_together(&words, inputs, gains, codes, unread),
+        board: parts.board(),
         answer,
     }
 }
@@ -63,23 +51,10 @@ pub fn read(b: Board, width: u32, offset: u32) -> Reply
 pub fn write(b: Board, width: u32, offset: u32, value: u32) -> Reply
     ensures { result ≡ write_call b width offset value }
 {
-    let mut words = held::taken_apart(b);
-    let inputs = b.inputs;
-    let mut gains = b.gains;
-    let codes = b.codes;
-    let mut unread = b.unread;
-    let answer = lent::write(
-        &mut words,
-        &inputs,
-        &mut gains,
-        &codes,
-        &mut unread,
-        width,
-        offset,
-        value,
-    );
+    let mut parts = Parts::from(b);
+    let answer = parts.write(width, offset, value);
     Reply {
-        board: held::put_together(&words, inputs, gains, codes, unread),
+        board: parts.board(),
         answer,
     }
 }
@@ -88,22 +63,10 @@ pub fn write(b: Board, width: u32, offset: u32, value: u32) -> Reply
 pub fn input(b: Board, channel: u32, microvolts: i32) -> Reply
     ensures { result ≡ input_call b channel microvolts }
 {
-    let words = held::taken_apart(b);
-    let mut inputs = b.inputs;
-    let gains = b.gains;
-    let codes = b.codes;
-    let unread = b.unread;
-    let answer = lent::input(
-        &words,
-        &mut inputs,
-        &gains,
-        &codes,
-        &unread,
-        channel,
-        microvolts,
-    );
+    let mut parts = Parts::from(b);
+    let answer = parts.input(channel, microvolts);
     Reply {
-        board: held::put_together(&words, inputs, gains, codes, unread),
+        board: parts.board(),
         answer,
     }
 }
@@ -112,14 +75,10 @@ pub fn input(b: Board, channel: u32, microvolts: i32) -> Reply
 pub fn advance(b: Board, ticks: u32) -> Reply
     ensures { result ≡ advance_call b ticks }
 {
-    let mut words = held::taken_apart(b);
-    let inputs = b.inputs;
-    let gains = b.gains;
-    let mut codes = b.codes;
-    let mut unread = b.unread;
-    let answer = lent::advance(&mut words, &inputs, &gains, &mut codes, &mut unread, ticks);
+    let mut parts = Parts::from(b);
+    let answer = parts.advance(ticks);
     Reply {
-        board: held::put_together(&words, inputs, gains, codes, unread),
+        board: parts.board(),
         answer,
     }
 }
@@ -128,14 +87,10 @@ pub fn advance(b: Board, ticks: u32) -> Reply
 pub fn trigger(b: Board) -> Reply
     ensures { result ≡ trigger_call b }
 {
-    let mut words = held::taken_apart(b);
-    let inputs = b.inputs;
-    let gains = b.gains;
-    let mut codes = b.codes;
-    let mut unread = b.unread;
-    let answer = lent::trigger(&mut words, &inputs, &gains, &mut codes, &mut unread);
+    let mut parts = Parts::from(b);
+    let answer = parts.trigger();
     Reply {
-        board: held::put_together(&words, inputs, gains, codes, unread),
+        board: parts.board(),
         answer,
     }
 }
@@ -144,14 +99,10 @@ pub fn trigger(b: Board) -> Reply
 pub fn reset(b: Board) -> Reply
     ensures { result ≡ reset_call b }
 {
-    let mut words = held::taken_apart(b);
-    let inputs = b.inputs;
-    let mut gains = b.gains;
-    let mut codes = b.codes;
-    let mut unread = b.unread;
-    let answer = lent::reset(&mut words, &inputs, &mut gains, &mut codes, &mut unread);
+    let mut parts = Parts::from(b);
+    let answer = parts.reset();
     Reply {
-        board: held::put_together(&words, inputs, gains, codes, unread),
+        board: parts.board(),
         answer,
     }
 }
@@ -160,9 +111,7 @@ pub fn reset(b: Board) -> Reply
 pub fn look(b: Board, slot: u32) -> Look
     ensures { result ≡ look_call b slot }
 {
-    let codes = b.codes;
-    let unread = b.unread;
-    let answer = lent::look(&codes, &unread, slot);
+    let answer = Parts::from(b).look(slot);
     Look { board: b, answer }
 }
 
@@ -170,26 +119,24 @@ pub fn look(b: Board, slot: u32) -> Look
 pub fn clear(b: Board, slot: u32) -> Reply
     ensures { result ≡ clear_call b slot }
 {
-    let mut board = b;
-    let mut unread = b.unread;
-    let answer = lent::clear(&mut unread, slot);
-    board.unread = unread;
-    Reply { board, answer }
+    let mut parts = Parts::from(b);
+    let answer = parts.clear(slot);
+    Reply {
+        board: parts.board(),
+        answer,
+    }
 }
 
 // The request line: enable and pending.
 pub fn request_line(b: Board) -> bool
     ensures { result ≡ request_line b }
 {
-    if b.registers.enable {
-        return b.pending;
-    }
-    false
+    b.registers.enable && b.pending
 }
 
-// The ticks to the next store if only time passes, 0 if none is to come.
-pub fn next_store(b: Board) -> u32
-    ensures { result ≡ next_store b }
+// The ticks to the next store if only time passes, if one is to come.
+pub fn next_store(b: Board) -> Option<u32>
+    ensures { result ≡ if_any (next_store b) }
 {
-    lent::next_store(&held::taken_apart(b))
+    Parts::from(b).next_store()
 }

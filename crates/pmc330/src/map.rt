@@ -1,42 +1,98 @@
-// The register map: the class of each byte offset.
+// The register map: the register of each byte offset.
 ghost use Rattle.std.specs.Prelude.{◌≡◌};
 ghost use Rattle.pmc330_model.specs.Map.{word_at, class_of};
-ghost use Rattle.pmc330.specs.Classes.{register_of};
 
-// The class of each word, one entry a word from offset 00H on.
-// 0 unmapped, 1 Interrupt, 2 Control, 3 Prescaler, 4 Timer, 5 Start and End Channel, 6 Start Convert, 7 and 8 New Data,
-// 9 and 10 Missed Data, 11 to 14 Gain, 32 to 63 Mailbox.
-const CLASSES: [u8; 64] = [
+use pmc330_model::Register;
+
+// The register of each word, one entry a word from offset 00H on. A static: a const would be laid on the stack at each use.
+static WORDS: [Register; 64] = [
     // 00H
-    1, 2, 3, 4, 5, 7, 8, 9, 10, 6,
+    Register::Interrupt,
+    Register::Control,
+    Register::Prescaler,
+    Register::Timer,
+    Register::Channels,
+    Register::NewData(0),
+    Register::NewData(1),
+    Register::MissedData(0),
+    Register::MissedData(1),
+    Register::StartConvert,
     // 28H
-    0, 0, 0, 0, 0, 0,
+    Register::Unmapped,
+    Register::Unmapped,
+    Register::Unmapped,
+    Register::Unmapped,
+    Register::Unmapped,
+    Register::Unmapped,
     // 40H
-    11, 12, 13, 14,
+    Register::Gain(0),
+    Register::Gain(1),
+    Register::Gain(2),
+    Register::Gain(3),
     // 50H
-    0, 0, 0, 0, 0, 0, 0, 0, 0, 0, 0, 0,
+    Register::Unmapped,
+    Register::Unmapped,
+    Register::Unmapped,
+    Register::Unmapped,
+    Register::Unmapped,
+    Register::Unmapped,
+    Register::Unmapped,
+    Register::Unmapped,
+    Register::Unmapped,
+    Register::Unmapped,
+    Register::Unmapped,
+    Register::Unmapped,
     // 80H
-    32, 33, 34, 35, 36, 37, 38, 39, 40, 41, 42, 43, 44, 45, 46, 47, 48, 49, 50, 51, 52, 53, 54, 55,
-    56, 57, 58, 59, 60, 61, 62, 63,
+    Register::Mailbox(0),
+    Register::Mailbox(1),
+    Register::Mailbox(2),
+    Register::Mailbox(3),
+    Register::Mailbox(4),
+    Register::Mailbox(5),
+    Register::Mailbox(6),
+    Register::Mailbox(7),
+    Register::Mailbox(8),
+    Register::Mailbox(9),
+    Register::Mailbox(10),
+    Register::Mailbox(11),
+    Register::Mailbox(12),
+    Register::Mailbox(13),
+    Register::Mailbox(14),
+    Register::Mailbox(15),
+    Register::Mailbox(16),
+    Register::Mailbox(17),
+    Register::Mailbox(18),
+    Register::Mailbox(19),
+    Register::Mailbox(20),
+    Register::Mailbox(21),
+    Register::Mailbox(22),
+    Register::Mailbox(23),
+    Register::Mailbox(24),
+    Register::Mailbox(25),
+    Register::Mailbox(26),
+    Register::Mailbox(27),
+    Register::Mailbox(28),
+    Register::Mailbox(29),
+    Register::Mailbox(30),
+    Register::Mailbox(31),
 ];
 
-// The class of a word; beyond the map there is nothing.
-fn word_class(word: u32) -> u8
-    ensures { register_of result ≡ word_at word }
+// The register of a word; beyond the map there is nothing.
+fn word_at(word: u32) -> Register
+    ensures { result ≡ word_at word }
 {
     if word < 64 {
-        let at = word as usize;
-        return CLASSES[at];
+        return WORDS[word as usize];
     }
-    0
+    Register::Unmapped
 }
 
-// The class of a byte offset: a word's first two bytes are live.
-pub(crate) fn class_at(offset: u32) -> u8
-    ensures { register_of result ≡ class_of offset }
+// The register of a byte offset: a word's first two bytes are live.
+pub(crate) fn register_at(offset: u32) -> Register
+    ensures { result ≡ class_of offset }
 {
     if offset % 4 < 2 {
-        return word_class(offset / 4);
+        return word_at(offset / 4);
     }
-    0
+    Register::Unmapped
 }

@@ -1,255 +1,177 @@
-// The questions of documents 01 and 02, asked in order. Each number is that of the first no; 0 if there is none.
-ghost use Rattle.std.specs.Prelude.{◌≡◌, ◌≤◌};
-ghost use Rattle.analog.specs.Answers.{first_no};
-ghost use Rattle.pmc330_model.specs.Map.{is_mapped, is_readable, is_writable};
-ghost use Rattle.pmc330_model.specs.Words.{bit_of, is_start};
-ghost use Rattle.pmc330_model.specs.Questions.{is_width, is_aligned, is_allowed, has_used_codes, is_valid, has_channels, has_interval, start_questions, access_questions, read_questions, word_questions, write_questions, is_input, input_questions, slot_questions};
-ghost use Rattle.pmc330.specs.Classes.{register_of};
+// The questions of documents 01 and 02, asked in order: the first that meets a no refuses the call.
+#![tactic(auto, unfolding(analog::specs::Answers::asked))]
 
-use super::{fields, widths};
-use pmc330_model::Registers;
+ghost use Rattle.std.specs.Prelude.{◌≡◌, ◌^◌, ltb, leb, [], ◌∷◌, MatchResult};
+ghost use Rattle.analog.specs.Answers.{question, asked};
+ghost use Rattle.analog.specs.declared.Refusal.TheVariants.{BadValue, BadDirection, BadTicks};
+ghost use Rattle.pmc330_model.specs.Map.{class_of, is_readable, is_writable};
+ghost use Rattle.pmc330_model.specs.Questions.{is_aligned, is_allowed, has_used_codes, is_valid, has_channels, has_interval, start_questions, access_questions, word_questions, is_input, input_questions, slot_questions};
+ghost use Rattle.pmc330.specs.Widths.{bits_of, IsAccess};
 
-fn is_width(width: u32) -> bool
-    ensures { result ≡ is_width width }
-{
-    if width == 8 {
-        return true;
-    }
-    if width == 16 {
-        return true;
-    }
-    width == 32
+use super::fields::{Acquisition, InterruptOn, ScanMode, Trigger};
+use super::widths::Width;
+use super::{fields, map, words};
+use analog::Refusal;
+use pmc330_model::{Register, Registers};
+
+// A read or a write of which questions 1 to 3 are met: its width, and the register at its offset.
+#[derive(Clone, Copy)]
+pub(crate) struct Access {
+    pub width: Width,
+    pub register: Register,
 }
 
-fn is_aligned(width: u32, offset: u32) -> bool
-    requires { 8 ≤ width }
-    ensures { result ≡ is_aligned width offset }
+fn is_aligned(width: Width, offset: u32) -> bool
+    ensures { result ≡ is_aligned (bits_of width) offset }
 {
-    if 256 <= offset {
-        return false;
-    }
-    offset % (width / 8) == 0
+    offset < 256 && offset % width.bytes() == 0
 }
 
-// The classes are those of the map.
-fn is_mapped(class: u8) -> bool
-    ensures { result ≡ is_mapped (register_of class) }
-{
-    if class == 0 {
-        return false;
+impl Access {
+    // Questions 1 to 3.
+    pub(crate) fn of(width: u32, offset: u32) -> Result<Self, Refusal>
+        ensures { MatchResult result (IsAccess width offset) (λ refusal. asked (access_questions width offset (class_of offset)) ≡ Err refusal) }
+    {
+        let width = Width::try_from(width)?;
+        if !is_aligned(width, offset) {
+            return Err(Refusal::BadOffset);
+        }
+        let register = map::register_at(offset);
+        if matches!(register, Register::Unmapped) {
+            return Err(Refusal::Unmapped);
+        }
+        Ok(Access { width, register })
     }
-    if class < 15 {
-        return true;
-    }
-    if class < 32 {
-        return false;
-    }
-    class < 64
 }
 
-fn is_readable(class: u8) -> bool
-    ensures { result ≡ is_readable (register_of class) }
+fn is_readable(register: Register) -> bool
+    ensures { result ≡ is_readable register }
 {
-    class != 6
+    !matches!(register, Register::StartConvert)
 }
 
 // New Data, Missed Data and the mailboxes are read only.
-fn is_writable(class: u8) -> bool
-    ensures { result ≡ is_writable (register_of class) }
+fn is_writable(register: Register) -> bool
+    ensures { result ≡ is_writable register }
 {
-    if class < 7 {
-        return true;
-    }
-    if class < 11 {
-        return false;
-    }
-    if class < 32 {
-        return true;
-    }
-    64 <= class
-}
-
-fn lowest_bit(word: u32) -> bool
-    ensures { result ≡ bit_of 0 word }
-{
-    word % 2 == 1
+    !matches!(
+        register,
+        Register::NewData(_) | Register::MissedData(_) | Register::Mailbox(_)
+    )
 }
 
 // Question 6.
-fn is_allowed(idle: bool, class: u8, word: u32, resulting: Registers) -> bool
-    ensures { result ≡ is_allowed idle (register_of class) word resulting }
+fn is_allowed(idle: bool, register: Register, word: u32, resulting: Registers) -> bool
+    ensures { result ≡ is_allowed idle register word resulting }
 {
-    if idle {
-        return true;
+    idle || match register {
+        Register::Interrupt => true,
+        Register::Control => fields::is_off(resulting),
+        Register::StartConvert => word % 2 == 0,
+        _ => false,
     }
-    if class == 1 {
-        return true;
-    }
-    if class == 2 {
-        return fields::scan_field(resulting.control) == 0;
-    }
-    if class == 6 {
-        return !lowest_bit(word);
-    }
-    false
 }
 
+#[tactic(auto, using(crate::proofs::FieldLaws::scan_used, crate::proofs::FieldLaws::trigger_used, crate::proofs::FieldLaws::acquisition_used, crate::proofs::FieldLaws::interrupt_used))]
 fn has_used_codes(control: u16) -> bool
     ensures { result ≡ has_used_codes control }
 {
-    if fields::trigger_field(control) == 3 {
-        return false;
-    }
-    if fields::acquisition_field(control) == 2 {
-        return false;
-    }
-    if 5 < fields::scan_field(control) {
-        return false;
-    }
-    fields::interrupt_field(control) != 3
+    Trigger::of(control).is_some()
+        && Acquisition::of(control).is_some()
+        && ScanMode::of(control).is_some()
+        && InterruptOn::of(control).is_some()
 }
 
 // Question 7.
-fn is_valid(class: u8, resulting: Registers) -> bool
-    ensures { result ≡ is_valid (register_of class) resulting }
+fn is_valid(register: Register, resulting: Registers) -> bool
+    ensures { result ≡ is_valid register resulting }
 {
-    if class == 2 {
-        return has_used_codes(resulting.control);
+    match register {
+        Register::Control => has_used_codes(resulting.control),
+        Register::Channels => resulting.start <= 31 && resulting.end <= 31,
+        _ => true,
     }
-    if class != 5 {
-        return true;
-    }
-    if 31 < resulting.start {
-        return false;
-    }
-    resulting.end <= 31
-}
-
-fn is_start(class: u8, word: u32) -> bool
-    ensures { result ≡ is_start (register_of class) word }
-{
-    if class != 6 {
-        return false;
-    }
-    lowest_bit(word)
 }
 
 // Question 9.
 pub(crate) fn has_channels(r: Registers) -> bool
     ensures { result ≡ has_channels r }
 {
-    if r.end < r.start {
-        return false;
-    }
-    if !fields::is_differential(r) {
-        return true;
-    }
-    r.end <= 15
+    r.start <= r.end && (!fields::is_differential(r) || r.end <= 15)
 }
 
 // Question 10.
 pub(crate) fn has_interval(r: Registers) -> bool
     ensures { result ≡ has_interval r }
 {
+    let timed = fields::is_timer_enabled(r.control);
     if fields::is_uniform(r) {
-        if !fields::is_timer_enabled(r.control) {
-            return false;
-        }
-        return 64 <= fields::interval_of(r);
+        return timed && 64 <= fields::interval_of(r);
     }
-    if fields::scan_field(r.control) != 3 {
-        return true;
-    }
-    if !fields::is_timer_enabled(r.control) {
-        return true;
-    }
-    64 <= fields::interval_of(r)
+    ScanMode::of(r.control) != Some(ScanMode::BurstContinuous)
+        || !timed
+        || 64 <= fields::interval_of(r)
 }
 
-// Questions 1 to 3.
-pub(crate) fn access_number(width: u32, offset: u32, class: u8) -> u8
-    ensures { result ≡ first_no (access_questions width offset (register_of class)) }
+// Question 5 of a read.
+pub(crate) fn of_read(register: Register) -> Result<(), Refusal>
+    ensures { result ≡ asked (question BadDirection (is_readable register) ∷ []) }
 {
-    if !is_width(width) {
-        return 1;
+    if !is_readable(register) {
+        return Err(Refusal::BadDirection);
     }
-    if !is_aligned(width, offset) {
-        return 2;
-    }
-    if !is_mapped(class) {
-        return 3;
-    }
-    0
-}
-
-pub(crate) fn read_number(width: u32, offset: u32, class: u8) -> u8
-    ensures { result ≡ first_no (read_questions width offset (register_of class)) }
-{
-    let access = access_number(width, offset, class);
-    if access != 0 {
-        return access;
-    }
-    if !is_readable(class) {
-        return 5;
-    }
-    0
+    Ok(())
 }
 
 // Questions 8 to 10.
-fn start_number(r: Registers) -> u8
-    ensures { result ≡ first_no (start_questions r) }
+fn of_start(r: Registers) -> Result<(), Refusal>
+    ensures { result ≡ asked (start_questions r) }
 {
-    if fields::scan_field(r.control) == 0 {
-        return 8;
+    if fields::is_off(r) {
+        return Err(Refusal::NoScan);
     }
     if !has_channels(r) {
-        return 9;
+        return Err(Refusal::BadChannels);
     }
     if !has_interval(r) {
-        return 10;
+        return Err(Refusal::BadInterval);
     }
-    0
+    Ok(())
+}
+
+// Question 4.
+pub(crate) fn of_value(width: Width, value: u32) -> Result<(), Refusal>
+    ensures { result ≡ asked (question BadValue (ltb value (2 ^ bits_of width)) ∷ []) }
+{
+    if width.numbers() <= u64::from(value) {
+        return Err(Refusal::BadValue);
+    }
+    Ok(())
 }
 
 // Questions 5 to 10 of a write.
-fn word_number(r: Registers, idle: bool, class: u8, word: u32, resulting: Registers) -> u8
-    ensures { result ≡ first_no (word_questions r idle (register_of class) word resulting) }
-{
-    if !is_writable(class) {
-        return 5;
-    }
-    if !is_allowed(idle, class, word, resulting) {
-        return 6;
-    }
-    if !is_valid(class, resulting) {
-        return 7;
-    }
-    if !is_start(class, word) {
-        return 0;
-    }
-    start_number(r)
-}
-
-pub(crate) fn write_number(
+pub(crate) fn of_word(
     r: Registers,
     idle: bool,
-    width: u32,
-    offset: u32,
-    value: u32,
-    class: u8,
+    register: Register,
     word: u32,
     resulting: Registers,
-) -> u8
-    ensures { result ≡ first_no (write_questions r idle width offset value (register_of class) word resulting) }
+) -> Result<(), Refusal>
+    ensures { result ≡ asked (word_questions r idle register word resulting) }
 {
-    let access = access_number(width, offset, class);
-    if access != 0 {
-        return access;
+    if !is_writable(register) {
+        return Err(Refusal::BadDirection);
     }
-    if widths::power(width) <= value as u64 {
-        return 4;
+    if !is_allowed(idle, register, word, resulting) {
+        return Err(Refusal::Busy);
     }
-    word_number(r, idle, class, word, resulting)
+    if !is_valid(register, resulting) {
+        return Err(Refusal::BadCode);
+    }
+    if words::is_start(register, word) {
+        return of_start(r);
+    }
+    Ok(())
 }
 
 // Question 12.
@@ -259,24 +181,35 @@ fn is_input(microvolts: i32) -> bool
     -35_000_000 <= microvolts && microvolts <= 55_000_000
 }
 
-pub(crate) fn input_number(channel: u32, microvolts: i32) -> u8
-    ensures { result ≡ first_no (input_questions channel microvolts) }
+// Questions 11 and 12.
+pub(crate) fn of_input(channel: u32, microvolts: i32) -> Result<(), Refusal>
+    ensures { result ≡ asked (input_questions channel microvolts) }
 {
     if 31 < channel {
-        return 11;
+        return Err(Refusal::BadChannel);
     }
     if !is_input(microvolts) {
-        return 12;
+        return Err(Refusal::BadVoltage);
     }
-    0
+    Ok(())
+}
+
+// Question 13.
+pub(crate) fn of_advance(ticks: u32) -> Result<(), Refusal>
+    ensures { result ≡ asked (question BadTicks (leb ticks 16_777_216) ∷ []) }
+{
+    if 16_777_216 < ticks {
+        return Err(Refusal::BadTicks);
+    }
+    Ok(())
 }
 
 // Question 22.
-pub(crate) fn slot_number(slot: u32) -> u8
-    ensures { result ≡ first_no (slot_questions slot) }
+pub(crate) fn of_slot(slot: u32) -> Result<(), Refusal>
+    ensures { result ≡ asked (slot_questions slot) }
 {
     if 31 < slot {
-        return 22;
+        return Err(Refusal::BadSlot);
     }
-    0
+    Ok(())
 }

@@ -1,6 +1,7 @@
 // The next store: found from the countdowns, with no tick counted.
 ghost use Rattle.std.specs.Prelude.{◌≡◌};
-ghost use Rattle.pmc330_model.specs.Jumps.{is_store_next, is_crowded, store_after_beginning, joined_ticks, ticks_to_store, ticks_to_next_store};
+ghost use Rattle.pmc330_model.specs.Jumps.{is_store_next, is_crowded, store_after_beginning, ticks_to_store, ticks_to_next_store};
+ghost use Rattle.pmc330_model.specs.Board.{if_any};
 
 use crate::held::Core;
 use crate::{fields, time};
@@ -10,77 +11,51 @@ use pmc330_model::{Cycle, Registers};
 fn is_store_next(c: Cycle) -> bool
     ensures { result ≡ is_store_next c }
 {
-    if c.lag == 0 {
-        return false;
-    }
-    if c.lead == 0 {
-        return true;
-    }
-    c.lag <= c.lead
+    0 < c.lag && (c.lead == 0 || c.lag <= c.lead)
 }
 
 // Whether conversions begin before the one before is stored. No list of calls leads there, but lent words may.
 fn is_crowded(r: Registers) -> bool
     ensures { result ≡ is_crowded r }
 {
-    if !fields::is_uniform(r) {
-        return false;
-    }
-    let interval = fields::interval_of(r);
-    if interval == 0 {
-        return false;
-    }
-    interval < 64
+    fields::is_uniform(r) && (1..64).contains(&fields::interval_of(r))
 }
 
-// The ticks from a beginning to the next store, 0 if none comes.
-fn store_after_beginning(r: Registers, index: u8) -> u32
-    ensures { result ≡ store_after_beginning r index }
+// The ticks from a beginning to the next store, if one comes.
+fn store_after_beginning(r: Registers, index: u8) -> Option<u32>
+    ensures { result ≡ if_any (store_after_beginning r index) }
 {
     if !is_crowded(r) {
-        return 64;
+        return Some(64);
     }
     if !fields::is_single(r) {
-        return 0;
+        return None;
     }
-    let rest = time::less(fields::pass_length(r), fields::wide(index) + 1);
-    64 + rest * fields::interval_of(r)
+    let rest = fields::pass_length(r).saturating_sub(u32::from(index) + 1);
+    Some(64 + rest * fields::interval_of(r))
 }
 
-fn joined_ticks(n: u32, k: u32) -> u64
-    ensures { result ≡ joined_ticks n k }
-{
-    if n == 0 {
-        return 0;
-    }
-    if k == 0 {
-        return 0;
-    }
-    n as u64 + k as u64
-}
-
-// The ticks to the next store of a running cycle in time, 0 if none comes.
-fn ticks_to_store(r: Registers, c: Cycle) -> u64
-    ensures { result ≡ ticks_to_store r c }
+// The ticks to the next store of a running cycle in time, if one comes.
+fn ticks_to_store(r: Registers, c: Cycle) -> Option<u64>
+    ensures { result ≡ if_any (ticks_to_store r c) }
 {
     if is_store_next(c) {
-        return c.lag as u64;
+        return Some(u64::from(c.lag));
     }
-    joined_ticks(c.lead, store_after_beginning(r, c.index))
+    if c.lead == 0 {
+        return None;
+    }
+    let after = store_after_beginning(r, c.index)?;
+    Some(u64::from(c.lead) + u64::from(after))
 }
 
-// The ticks to the next store if only time passes, 0 if one advance does not reach any.
-pub(crate) fn ticks_to_next_store(core: Core) -> u32
-    ensures { result ≡ ticks_to_next_store core.registers core.cycle }
+// The ticks to the next store if only time passes, if one advance reaches it.
+pub(crate) fn ticks_to_next_store(core: Core) -> Option<u32>
+    ensures { result ≡ if_any (ticks_to_next_store core.registers core.cycle) }
 {
     if !time::is_in_time(core) {
-        return 0;
+        return None;
     }
-    let r = core.registers;
-    let c = core.cycle;
-    let ticks = ticks_to_store(r, c);
-    if ticks <= 16_777_216 {
-        return ticks as u32;
-    }
-    0
+    let ticks = ticks_to_store(core.registers, core.cycle)?;
+    u32::try_from(ticks).ok().filter(|&n| n <= 16_777_216)
 }

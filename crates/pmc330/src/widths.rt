@@ -1,16 +1,51 @@
 // The three widths of an access.
-ghost use Rattle.std.specs.Prelude.{◌≡◌};
-ghost use Rattle.pmc330.specs.Widths.{power_of};
+ghost use Rattle.std.specs.Prelude.{◌≡◌, ◌/◌, ◌%◌, ◌^◌, eqb};
+ghost use Rattle.pmc330.specs.Widths.{bits_of, width_of};
 
-// 2 to the width.
-pub(crate) fn power(width: u32) -> u64
-    ensures { result ≡ power_of width }
-{
-    if width == 8 {
-        return 0x100;
+use analog::Refusal;
+
+#[derive(Clone, Copy, Debug, PartialEq, Eq)]
+pub(crate) enum Width {
+    Byte,
+    Half,
+    Word,
+}
+
+// Question 1.
+impl TryFrom<u32> for Width {
+    type Error = Refusal;
+
+    ghost try_from_gives = { λ bits width. width ≡ width_of bits };
+
+    fn try_from(bits: u32) -> Result<Self, Refusal> {
+        match bits {
+            8 => Ok(Width::Byte),
+            16 => Ok(Width::Half),
+            32 => Ok(Width::Word),
+            _ => Err(Refusal::BadWidth),
+        }
     }
-    if width == 16 {
-        return 0x10000;
+}
+
+impl Width {
+    pub(crate) fn bytes(self) -> u32
+        ensures { result ≡ bits_of self / 8 }
+    {
+        match self {
+            Width::Byte => 1,
+            Width::Half => 2,
+            Width::Word => 4,
+        }
     }
-    0x100000000
+
+    // How many numbers it has.
+    pub(crate) fn numbers(self) -> u64
+        ensures { result ≡ 2 ^ bits_of self }
+    {
+        match self {
+            Width::Byte => 0x100,
+            Width::Half => 0x1_0000,
+            Width::Word => 0x1_0000_0000,
+        }
+    }
 }

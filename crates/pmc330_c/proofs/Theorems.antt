@@ -3,13 +3,14 @@ use mathlib.Core.Bool.{Bool, false, cond}
 use mathlib.Core.List.{List, [], ◌∷◌}
 use mathlib.Core.Path.{◌≡◌, refl, sym, ap, ap₂, subst, ◌∙◌}
 use Prim.Native.Nat.{ℕ, ◌<◌}
-use native.Mathlib.Nat.{zero-add}
 use native.Mathlib.Omega.{arith}
 use lib.Dec.{leb}
 use borrow.Author.Tests.{le-leb, lt-leb}
-use Rattle.analog.specs.Answers.{packed, answered, first_no, is_accepted}
+use Rattle.std.specs.Prelude.{Ok, Err, IsErrAnd}
+use Rattle.analog.specs.Answers.{Answer, asked, answered, is_accepted}
+use Rattle.analog.specs.declared.Refusal.{Refusal}
 use Rattle.pmc330_model.specs.Calls.{Call, read, write, input, advance, trigger, reset, look, clear}
-use Rattle.pmc330_model.specs.Board.{new_board, next_store, questions_of, board_call, board_from, answers_from}
+use Rattle.pmc330_model.specs.Board.{new_board, next_store, board_call, board_from, answers_from}
 use Rattle.pmc330_model.specs.Lent.{Parts, parts, held_by, open_call, words_of}
 use Rattle.pmc330_model.specs.Logbook.{logbook_of}
 use Rattle.pmc330_model.specs.Sentences.{AfterList1, Sentence3, value_of_advances}
@@ -73,18 +74,22 @@ words_kept reset reply words refused = ap (λ (t : Bool). cond t (words_of reply
 words_kept (look slot) reply words refused = refl
 words_kept (clear slot) reply words refused = refl
 
+not_accepted : (answer : Answer) (P : Refusal → Type 0) → IsErrAnd answer P → is_accepted answer ≡ false
+not_accepted (Ok value) P h = absurd h
+not_accepted (Err refusal) P h = refl
+
 pub refused_steps : EveryRefusedStep
 refused_steps before after call result h unmet =
     let said = sentence1 (held_by before) call in
-    let refused : is_accepted (board_call (held_by before) call).answer ≡ false = ap is_accepted (said.answer.refused unmet) in (
-      h.answer ∙ ap packed (said.answer.refused unmet) ∙ zero-add (first_no (questions_of (held_by before) call)),
+    let refused = not_accepted (board_call (held_by before) call).answer _ (said.answer.refused unmet) in (
+      h.answer ∙ omega (arith, said.answer.number, said.answer.value unmet),
       same_parts after before
           (h.words ∙ words_kept call (board_call (held_by before) call) before.words refused)
           (h.board ∙ said.board unmet),
     )
 
 pub refused_opens : EveryRefusedOpen
-unfolding answered first_no
+unfolding answered asked
 refused_opens before after range result h above =
     let off : leb range 3 ≡ false = lt-leb range 3 above in
     let refused : is_accepted (open_call (held_by before) range).answer ≡ false = rw off in (

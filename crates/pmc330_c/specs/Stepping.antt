@@ -1,7 +1,6 @@
 -- A board that C holds and steps: what each call does to its parts, and what a list of calls comes to.
 use Rattle.std.specs.Prelude.{ℕ, ◌<◌, false, List, [], ◌∷◌, ◌≡◌}
-use Rattle.analog.specs.Answers.{packed, all_met, first_no}
-use Rattle.analog.specs.declared.Answer.{Answer}
+use Rattle.analog.specs.Answers.{packed, all_met, first_no, Answer}
 use Rattle.pmc330_model.specs.Calls.{Call, read, write, input, advance, trigger, reset, look, clear}
 use Rattle.pmc330_model.specs.Board.{questions_of, board_call, next_store, board_after, answers_of}
 use Rattle.pmc330_model.specs.Lent.{Parts, held_by, open_call, words_after}

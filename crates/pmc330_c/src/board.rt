@@ -1,4 +1,5 @@
 // A board that C holds in a struct of its own: the calls in place, on its parts, each with one number for an answer.
+// C lends the arrays one by one, each for reading or for change, so they are parameters of their own.
 ghost use Rattle.std.specs.Prelude.{List, ◌≡◌, ℕ, ℤ};
 ghost use Rattle.pmc330_model.specs.Board.{request_line, next_store};
 ghost use Rattle.pmc330_model.specs.Calls.{read, write, input, advance, trigger, reset, look, clear};
@@ -137,16 +138,13 @@ pub extern "C" fn pmc330_parts_clear(unread: &mut [u8; 32], slot: u32) -> u64
 pub extern "C" fn pmc330_parts_line(words: &[u32; 17]) -> u32
     ensures { (inputs : List ℤ) (gains codes unread : List ℕ) → result ≡ to_bit (request_line (board_in words.now inputs gains codes unread)) }
 {
-    if lent::request_line(words) {
-        return 1;
-    }
-    0
+    u32::from(lent::request_line(words))
 }
 
-// The ticks to the next store if only time passes, 0 if none is to come. The arrays do not matter.
+// The ticks to the next store if only time passes, 0 if none is to come: C has no Option. The arrays do not matter.
 #[unsafe(no_mangle)]
 pub extern "C" fn pmc330_parts_next_store(words: &[u32; 17]) -> u32
     ensures { (inputs : List ℤ) (gains codes unread : List ℕ) → result ≡ next_store (board_in words.now inputs gains codes unread) }
 {
-    lent::next_store(words)
+    lent::next_store(words).unwrap_or(0)
 }

@@ -20,8 +20,8 @@ pub(crate) fn packed_answer(answer: Answer) -> u64
     ensures { result ≡ packed answer }
 {
     match answer {
-        Answer::Accepted(value) => 256 * (value as u64),
-        Answer::Refused(number) => number as u64,
+        Ok(value) => 256 * u64::from(value),
+        Err(refusal) => u64::from(refusal.number()),
     }
 }
 
@@ -46,7 +46,7 @@ pub extern "C" fn pmc330_corrected(
 pub extern "C" fn pmc330_code(range: u32, gain: u32, microvolts: i32) -> u32
     ensures { result ≡ code_of range gain microvolts }
 {
-    analog::code(range, gain, microvolts) as u32
+    u32::from(analog::code(range, gain, microvolts))
 }
 
 // The sums of a running average's window: 256 × how many codes the last sum holds + number.
@@ -64,7 +64,7 @@ pub extern "C" fn pmc330_play(trace: &[u8], answers: &mut [u8]) -> u64
     ensures result { result ≡ played_result trace.now (length answers.old) }
     ensures buffer { answers.new ≡ played_buffer trace.now answers.old }
 {
-    trace::play(trace, answers)
+    packed_answer(trace::play(trace, answers))
 }
 
 // A recording replayed on a new board: number + 2^8 × index + 2^32 × count.
@@ -73,9 +73,11 @@ pub extern "C" fn pmc330_replay(trace: &[u8]) -> u64
     ensures { result ≡ replay_result (replayed trace.now) }
 {
     match trace::replay(trace) {
-        Replayed::Refused(number) => number as u64,
-        Replayed::Agree(count) => 4_294_967_296 * (count as u64),
-        Replayed::Differs(index, count) => 256 * (index as u64) + 4_294_967_296 * (count as u64),
+        Ok(Replayed::Agree(count)) => 4_294_967_296 * u64::from(count),
+        Ok(Replayed::Differs { index, count }) => {
+            256 * u64::from(index) + 4_294_967_296 * u64::from(count)
+        }
+        Err(refusal) => u64::from(refusal.number()),
     }
 }
 

@@ -8,7 +8,9 @@ use lib.Dec.{eqb}
 use borrow.Author.Tests.{eqb-true, leb-true}
 use Rattle.analog.specs.Answers.{Question, question, first_no}
 use Rattle.analog.proofs.AnswerLaws.{same_if_met}
-use Rattle.pmc330_model.specs.Map.{Register, unmapped, interrupt, control, prescaler, timer, channels, start_convert, new_data, missed_data, gain, mailbox, class_of, scan_field}
+use Rattle.pmc330_model.specs.Map.{class_of, scan_field}
+use Rattle.pmc330_model.specs.declared.Register.{Register}
+use Rattle.pmc330_model.specs.declared.Register.TheVariants.{Unmapped, Interrupt, Control, Prescaler, Timer, Channels, StartConvert, NewData, MissedData, Gain, Mailbox}
 use Rattle.pmc330_model.specs.Words.{with_word, read_bytes, is_start}
 use Rattle.pmc330_model.specs.Calls.{Call, read, write, input, advance, trigger, reset, look, clear}
 use Rattle.pmc330_model.specs.Board.{after_read, after_call, value_of_call, questions_of, board_call, stores_in}
@@ -25,6 +27,7 @@ use Rattle.pmc330_model.proofs.Related.{unchanged, both}
 use Rattle.pmc330_model.proofs.Ticks.{ticks_agree}
 use Rattle.pmc330_model.proofs.Triggers.{trigger_agrees}
 use Rattle.pmc330_model.proofs.Writes.{write_agrees}
+use Rattle.analog.specs.declared.Refusal.TheVariants.{BadCode, Busy}
 
 -- the board is idle when the logbook is
 idle_same : (r : Registers) (tick : ℕ) (cycle : Running) (c : Cycle) → CycleAgrees r tick cycle c → not c.running ≡ is_idle cycle
@@ -34,17 +37,17 @@ idle_same r tick (since T triggers) c h =
 
 module _ (b : Board) (tick : ℕ) (cycle : Running) (events : List Event) (agrees : Agrees b tick cycle events) where
   read_agrees : (register : Register) → Related (record { range = b.range; registers = b.registers; gains = b.gains; inputs = b.inputs; tick = tick; taken = b.held; cycle = cycle; events = read_event register events }) (after_read register b)
-  read_agrees unmapped = unchanged b tick cycle events agrees
-  read_agrees interrupt = unchanged b tick cycle events agrees
-  read_agrees control = unchanged b tick cycle events agrees
-  read_agrees prescaler = unchanged b tick cycle events agrees
-  read_agrees timer = unchanged b tick cycle events agrees
-  read_agrees channels = unchanged b tick cycle events agrees
-  read_agrees start_convert = unchanged b tick cycle events agrees
-  read_agrees (new_data half) = unchanged b tick cycle events agrees
-  read_agrees (missed_data half) = unchanged b tick cycle events agrees
-  read_agrees (gain group) = unchanged b tick cycle events agrees
-  read_agrees (mailbox slot) =
+  read_agrees Unmapped = unchanged b tick cycle events agrees
+  read_agrees Interrupt = unchanged b tick cycle events agrees
+  read_agrees Control = unchanged b tick cycle events agrees
+  read_agrees Prescaler = unchanged b tick cycle events agrees
+  read_agrees Timer = unchanged b tick cycle events agrees
+  read_agrees Channels = unchanged b tick cycle events agrees
+  read_agrees StartConvert = unchanged b tick cycle events agrees
+  read_agrees (NewData half) = unchanged b tick cycle events agrees
+  read_agrees (MissedData half) = unchanged b tick cycle events agrees
+  read_agrees (Gain group) = unchanged b tick cycle events agrees
+  read_agrees (Mailbox slot) =
       record {
         tick = tick;
         cycle = cycle;
@@ -71,26 +74,26 @@ module _ (b : Board) (tick : ℕ) (cycle : Running) (events : List Event) (agree
     last = cond (is_start (class_of offset) word) (start_questions b.registers) []
 
     abbrev after6 : List Question
-    after6 = question 7 (is_valid (class_of offset) resulting) ∷ last
+    after6 = question BadCode (is_valid (class_of offset) resulting) ∷ last
 
     abbrev after5 : List Question
-    after5 = question 6 (is_allowed (is_idle cycle) (class_of offset) word resulting) ∷ after6
+    after5 = question Busy (is_allowed (is_idle cycle) (class_of offset) word resulting) ∷ after6
 
     started_met : first_no last ≡ 0 → is_start (class_of offset) word ≡ true → (scan_field b.registers.control ≡ 0 → ⊥) × (has_channels b.registers ≡ true) × (has_interval b.registers ≡ true)
     started_met e start =
         let first = subst (λ (t : Bool). first_no (cond t (start_questions b.registers) []) ≡ 0) start e in
-        let second = rest_met 7 _ _ first in (
-          λ none. false≢true (sym (ap (λ (n : ℕ). not (eqb n 0)) none) ∙ first_met 7 _ _ first),
-          first_met 8 _ _ second,
-          first_met 9 _ _ (rest_met 8 _ _ second),
+        let second = rest_met _ _ _ first in (
+          λ none. false≢true (sym (ap (λ (n : ℕ). not (eqb n 0)) none) ∙ first_met _ _ _ first),
+          first_met _ _ _ second,
+          first_met _ _ _ (rest_met _ _ _ second),
         )
 
     written : first_no (call_questions b.registers b.gains (is_idle cycle) (write width offset value)) ≡ 0 → Related (happens (book_of b tick cycle events) (write width offset value)) (after_call b (write width offset value))
     unfolding call_questions happens after_call
     written e =
-        let five : first_no after5 ≡ 0 = rest_met 4 _ _ (rest_met 3 _ _ (rest_met 2 _ _ (rest_met 1 _ _ (rest_met 0 _ _ e)))) in
-        let six : first_no after6 ≡ 0 = rest_met 5 _ _ five in
-        write_agrees b tick cycle events agrees (class_of offset) word (first_met 5 _ _ five) (first_met 6 _ _ six) (started_met (rest_met 6 _ _ six))
+        let five : first_no after5 ≡ 0 = rest_met _ _ _ (rest_met _ _ _ (rest_met _ _ _ (rest_met _ _ _ (rest_met _ _ _ e)))) in
+        let six : first_no after6 ≡ 0 = rest_met _ _ _ five in
+        write_agrees b tick cycle events agrees (class_of offset) word (first_met _ _ _ five) (first_met _ _ _ six) (started_met (rest_met _ _ _ six))
 
   -- every accepted call
   happens_agrees : (call : Call) → first_no (call_questions b.registers b.gains (is_idle cycle) call) ≡ 0 → Related (happens (book_of b tick cycle events) call) (after_call b call)
@@ -124,7 +127,7 @@ module _ (b : Board) (tick : ℕ) (cycle : Running) (events : List Event) (agree
             };
       }
   happens_agrees (look slot) e = unchanged b tick cycle events agrees
-  happens_agrees (clear slot) e = read_agrees (mailbox slot)
+  happens_agrees (clear slot) e = read_agrees (Mailbox slot)
 
   pub questions_same : (call : Call) → questions_of b call ≡ logbook_questions (book_of b tick cycle events) call
   questions_same call =
@@ -147,7 +150,7 @@ module _ (b : Board) (tick : ℕ) (cycle : Running) (events : List Event) (agree
   value_same (advance ticks) met = stores_same ticks
   value_same trigger met = refl
   value_same reset met = refl
-  value_same (look slot) met = look_agrees b tick cycle events agrees slot (omega (arith, leb-true slot 31 (first_met 21 _ _ met)))
+  value_same (look slot) met = look_agrees b tick cycle events agrees slot (omega (arith, leb-true slot 31 (first_met _ _ _ met)))
   value_same (clear slot) met = refl
 
   pub answer_same : (call : Call) → (board_call b call).answer ≡ logged_answer (book_of b tick cycle events) call

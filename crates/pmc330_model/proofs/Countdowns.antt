@@ -6,7 +6,9 @@ use native.Mathlib.Nat.{mul-le-mul}
 use native.Mathlib.Omega.{arith}
 use lib.Dec.{eqb, ltb, leb}
 use Rattle.analog.specs.Answers.{first_no}
-use Rattle.pmc330_model.specs.Map.{scan_field, is_timer_enabled, Register, unmapped, interrupt, control, prescaler, timer, channels, start_convert, new_data, missed_data, gain, mailbox, class_of, trigger_field}
+use Rattle.pmc330_model.specs.Map.{scan_field, is_timer_enabled, class_of, trigger_field}
+use Rattle.pmc330_model.specs.declared.Register.{Register}
+use Rattle.pmc330_model.specs.declared.Register.TheVariants.{Unmapped, Interrupt, Control, Prescaler, Timer, Channels, StartConvert, NewData, MissedData, Gain, Mailbox}
 use Rattle.pmc330_model.specs.Words.{written_byte, written_word, with_word, is_stop, is_start}
 use Rattle.pmc330_model.specs.Schedule.{pass_length, interval, is_uniform, is_burst, is_single, is_timed, is_trigger_only, burst_delay}
 use Rattle.pmc330_model.specs.Calls.{Call, read, write, input, advance, trigger, reset, look, clear}
@@ -150,17 +152,17 @@ written_most width offset value old = omega (arith, byte 0, byte 1)
 
 fitting_with : (register : Register) (word : ℕ) (r : Registers) → word ≤ 65535 → Fitting r → Fitting (with_word register word r)
 unfolding with_word
-fitting_with unmapped word r most fit = fit
-fitting_with interrupt word r most fit = record { prescaler = fit.prescaler; timer = fit.timer; end = fit.end }
-fitting_with control word r most fit = record { prescaler = fit.prescaler; timer = fit.timer; end = fit.end }
-fitting_with prescaler word r most fit = record { prescaler = omega arith; timer = fit.timer; end = fit.end }
-fitting_with timer word r most fit = record { prescaler = fit.prescaler; timer = most; end = fit.end }
-fitting_with channels word r most fit = record { prescaler = fit.prescaler; timer = fit.timer; end = omega arith }
-fitting_with start_convert word r most fit = fit
-fitting_with (new_data half) word r most fit = fit
-fitting_with (missed_data half) word r most fit = fit
-fitting_with (gain group) word r most fit = fit
-fitting_with (mailbox slot) word r most fit = fit
+fitting_with Unmapped word r most fit = fit
+fitting_with Interrupt word r most fit = record { prescaler = fit.prescaler; timer = fit.timer; end = fit.end }
+fitting_with Control word r most fit = record { prescaler = fit.prescaler; timer = fit.timer; end = fit.end }
+fitting_with Prescaler word r most fit = record { prescaler = omega arith; timer = fit.timer; end = fit.end }
+fitting_with Timer word r most fit = record { prescaler = fit.prescaler; timer = most; end = fit.end }
+fitting_with Channels word r most fit = record { prescaler = fit.prescaler; timer = fit.timer; end = omega arith }
+fitting_with StartConvert word r most fit = fit
+fitting_with (NewData half) word r most fit = fit
+fitting_with (MissedData half) word r most fit = fit
+fitting_with (Gain group) word r most fit = fit
+fitting_with (Mailbox slot) word r most fit = fit
 
 write_bounded : (register : Register) (word : ℕ) (b : Board) → word ≤ 65535 → Bounded b → Bounded (after_write register word b)
 unfolding after_write
@@ -173,17 +175,17 @@ write_bounded register word b most h =
     either_bounded (is_start register word) (started (word_written register word b)) (word_written register word b) (started_bounded (word_written register word b) next) next
 
 read_bounded : (register : Register) (b : Board) → Bounded b → Bounded (after_read register b)
-read_bounded unmapped b h = h
-read_bounded interrupt b h = h
-read_bounded control b h = h
-read_bounded prescaler b h = h
-read_bounded timer b h = h
-read_bounded channels b h = h
-read_bounded start_convert b h = h
-read_bounded (new_data half) b h = h
-read_bounded (missed_data half) b h = h
-read_bounded (gain group) b h = h
-read_bounded (mailbox slot) b h = record { registers = h.registers; cycle = h.cycle }
+read_bounded Unmapped b h = h
+read_bounded Interrupt b h = h
+read_bounded Control b h = h
+read_bounded Prescaler b h = h
+read_bounded Timer b h = h
+read_bounded Channels b h = h
+read_bounded StartConvert b h = h
+read_bounded (NewData half) b h = h
+read_bounded (MissedData half) b h = h
+read_bounded (Gain group) b h = h
+read_bounded (Mailbox slot) b h = record { registers = h.registers; cycle = h.cycle }
 
 -- ---- calls
 
@@ -203,7 +205,7 @@ call_bounded b (advance ticks) h = advanced_bounded ticks b h
 call_bounded b trigger h = triggered_bounded b h
 call_bounded b reset h = cleared_bounded b
 call_bounded b (look slot) h = h
-call_bounded b (clear slot) h = read_bounded (mailbox slot) b h
+call_bounded b (clear slot) h = read_bounded (Mailbox slot) b h
 
 calls_bounded : (calls : List Call) (b : Board) → Bounded b → Bounded (board_from b calls)
 unfolding board_from board_call

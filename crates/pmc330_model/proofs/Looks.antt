@@ -6,9 +6,10 @@ use native.Mathlib.Omega.{arith}
 use lib.Dec.{eqb}
 use borrow.Author.Tests.{le-leb}
 use Rattle.analog.specs.Answers.{first_no, is_accepted}
-use Rattle.analog.specs.declared.Answer.TheVariants.{Accepted}
 use Rattle.analog.proofs.AnswerLaws.{accepted_none}
-use Rattle.pmc330_model.specs.Map.{Register, mailbox, class_of}
+use Rattle.pmc330_model.specs.Map.{class_of}
+use Rattle.pmc330_model.specs.declared.Register.{Register}
+use Rattle.pmc330_model.specs.declared.Register.TheVariants.{Mailbox}
 use Rattle.pmc330_model.specs.Words.{read_word, look_value, read_bytes}
 use Rattle.pmc330_model.specs.Calls.{read, look, clear}
 use Rattle.pmc330_model.specs.Questions.{slot_questions, call_questions}
@@ -21,6 +22,7 @@ use Rattle.pmc330_model.proofs.Cases.{either_way}
 use Rattle.pmc330_model.proofs.Reading.{class_is, mailbox_at, word_met, look_agrees}
 use Rattle.pmc330_model.proofs.Replies.{accepted_reply}
 use Rattle.pmc330_model.proofs.Theorems.{after}
+use Rattle.std.specs.Prelude.{Ok}
 
 -- a slot of the board meets question 22
 slot_met : (slot : ℕ) → slot < 32 → first_no (slot_questions slot) ≡ 0
@@ -28,7 +30,7 @@ unfolding first_no
 slot_met slot h = rw (le-leb slot 31 (omega arith))
 
 -- either live byte of a mailbox
-mailbox_byte : (slot byte : ℕ) → slot < 32 → byte < 2 → class_of (0x80 + 4 * slot + byte) ≡ mailbox slot
+mailbox_byte : (slot byte : ℕ) → slot < 32 → byte < 2 → class_of (0x80 + 4 * slot + byte) ≡ Mailbox slot
 mailbox_byte slot byte h live = class_is (0x20 + slot) byte (0x80 + 4 * slot + byte) live (omega arith) ∙ (mailbox_at slot h).is
 
 -- ---- the board
@@ -37,18 +39,18 @@ pub looks_change_nothing : EveryLook
 unfolding board_call after_call
 looks_change_nothing b slot = either_way (eqb (first_no (questions_of b (look slot))) 0) b
 
-look_shows : (b : Board) (slot : ℕ) → slot < 32 → (look_call b slot).answer ≡ Accepted (look_value (view_of b) slot)
+look_shows : (b : Board) (slot : ℕ) → slot < 32 → (look_call b slot).answer ≡ Ok (look_value (view_of b) slot)
 unfolding call_questions value_of_call
 look_shows b slot h = sym (ap (λ (r : Reply). r.answer) (accepted_reply b (look slot) _ _ (slot_met slot h) refl refl))
 
-clear_reply : (b : Board) (slot : ℕ) → slot < 32 → ◌≡◌ {A = Reply} (record { board = after_clear slot b; answer = Accepted 0 }) (clear_call b slot)
+clear_reply : (b : Board) (slot : ℕ) → slot < 32 → ◌≡◌ {A = Reply} (record { board = after_clear slot b; answer = Ok 0 }) (clear_call b slot)
 unfolding call_questions after_call value_of_call
 clear_reply b slot h = accepted_reply b (clear slot) _ _ (slot_met slot h) refl refl
 
 -- an accepted read, by the register that its offset belongs to
 read_reply :
     (b : Board) (width offset : ℕ) (register : Register) → class_of offset ≡ register → first_no (questions_of b (read width offset)) ≡ 0
-    → ◌≡◌ {A = Reply} (record { board = after_read register b; answer = Accepted (read_bytes width offset (read_word (view_of b) register)) })
+    → ◌≡◌ {A = Reply} (record { board = after_read register b; answer = Ok (read_bytes width offset (read_word (view_of b) register)) })
     (board_call b (read width offset))
 unfolding after_call value_of_call
 read_reply b width offset register class none =
@@ -59,7 +61,7 @@ pub mailbox_reads : EveryMailboxRead
 unfolding board_call read_word
 mailbox_reads b width slot byte h live accepted =
     let none = accepted_none (questions_of b (read width (0x80 + 4 * slot + byte))) _ accepted in
-    let taken = read_reply b width (0x80 + 4 * slot + byte) (mailbox slot) (mailbox_byte slot byte h live) none in
+    let taken = read_reply b width (0x80 + 4 * slot + byte) (Mailbox slot) (mailbox_byte slot byte h live) none in
     let cleared = clear_reply (look_call b slot).board slot h in
     record {
       looked = ap is_accepted (look_shows b slot h);
@@ -77,7 +79,7 @@ pub looks_show : EveryLookShown
 looks_show range valid calls slot h =
     let r = after range calls in
     look_shows (board_after range calls) slot h
-    ∙ ap Accepted (look_agrees (board_after range calls) r.tick r.cycle r.events r.agrees slot h
+    ∙ ap Ok (look_agrees (board_after range calls) r.tick r.cycle r.events r.agrees slot h
     ∙ ap (λ (l : Logbook). look_value (logbook_view l) slot) (sym r.same))
 
 clear_logged : (l : Logbook) (slot : ℕ) → slot < 32 → logged l (clear slot) ≡ happens l (clear slot)
@@ -87,7 +89,7 @@ clear_logged l slot h = rw (slot_met slot h)
 read_logged : (l : Logbook) (slot : ℕ) → slot < 32 → logged l (read 16 (0x80 + 4 * slot)) ≡ happens l (clear slot)
 unfolding logged call_questions happens
 read_logged l slot h =
-    rw (word_met (0x20 + slot) (0x80 + 4 * slot) (mailbox slot) (omega arith) (mailbox_at slot h), class_is (0x20 + slot) 0 (0x80 + 4 * slot) (omega arith) (omega arith), (mailbox_at slot h).is)
+    rw (word_met (0x20 + slot) (0x80 + 4 * slot) (Mailbox slot) (omega arith) (mailbox_at slot h), class_is (0x20 + slot) 0 (0x80 + 4 * slot) (omega arith) (omega arith), (mailbox_at slot h).is)
 
 pub slots_logged : EverySlotLogged
 unfolding logged happens

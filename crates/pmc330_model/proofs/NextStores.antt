@@ -8,8 +8,7 @@ use native.Mathlib.Nat.{add-zero, zero-add, zero-mul, suc-mul, mul-le-mul}
 use native.Mathlib.Omega.{arith}
 use lib.Dec.{eqb, ltb, leb}
 use borrow.Author.Tests.{eq-eqb, ne_eqb, le-leb, lt-leb, lt-ltb, le-ltb, ltb-true}
-use Rattle.analog.specs.Answers.{first_no, answered, value_of}
-use Rattle.analog.specs.declared.Answer.TheVariants.{Accepted}
+use Rattle.analog.specs.Answers.{first_no, asked, answered, value_of}
 use Rattle.pmc330_model.specs.Schedule.{pass_length, interval, is_uniform, is_single, is_timed, burst_delay}
 use Rattle.pmc330_model.specs.Board.{with_cycle, is_store_due, ticked, advanced, stores_in, first_store, next_store, begun, lead_after, stored_if_due, begun_if_due, board_call, advance_call, board_after}
 use Rattle.pmc330_model.specs.Questions.{call_questions}
@@ -22,6 +21,7 @@ use Rattle.pmc330_model.proofs.Cases.{lt_or_le, true_or_false, and_left, and_rig
 use Rattle.pmc330_model.proofs.Theorems.{stores_add, accepted_board, accepted_answer, accepted_value}
 use Rattle.pmc330_model.proofs.Countdowns.{Fitting, Near, Bounded, either_most, list_bounded}
 use Rattle.pmc330_model.proofs.Jumps.{Within, jump_board, jump_stores, idle_stores, untimed_stores}
+use Rattle.std.specs.Prelude.{Ok}
 
 -- no store comes in n ticks, or at all
 abbrev pub NoneIn : (n : ℕ) → Board → Type 0
@@ -483,7 +483,7 @@ next_is b =
 -- an advance of too many ticks is refused
 module _ (b : Board) (n : ℕ) (more : 16_777_216 < n) where
   refused_value : value_of (advance_call b n).answer ≡ 0
-  unfolding board_call call_questions first_no answered
+  unfolding board_call call_questions first_no asked answered
   refused_value = rw (lt-leb n 16_777_216 more)
 
   refused_board : (advance_call b n).board ≡ b
@@ -497,11 +497,11 @@ next_stores b =
     let is : next_store b ≡ f.ticks = f.is ∙ zero-add f.ticks in
     record {
       fewer = λ ticks less.
-          accepted_answer b ticks (omega (arith, is, f.most)) ∙ ap Accepted (f.first.fewer ticks (omega (arith, is)));
+          accepted_answer b ticks (omega (arith, is, f.most)) ∙ ap Ok (f.first.fewer ticks (omega (arith, is)));
       exact = λ some.
           accepted_answer b (next_store b) (omega (arith, is, f.most))
-          ∙ ap (λ (n : ℕ). Accepted (stores_in n b)) is
-          ∙ ap Accepted f.first.exact;
+          ∙ ap (λ (n : ℕ). Ok (stores_in n b)) is
+          ∙ ap Ok f.first.exact;
       none = λ zero_is. absurd (omega (arith, is, f.first.some));
     })
     (λ (m : Missing 16_777_216 b (next_store b)).

@@ -11,10 +11,11 @@ use lib.Pow.{pow-add}
 use lib.Dec.{eqb, ltb, leb}
 use lib.ListN.{get_or}
 use borrow.Author.Tests.{eq-eqb, lt-ltb, le-ltb, le-leb, lt-leb, ltb-true}
-use Rattle.analog.specs.Answers.{first_no, answered, value_of, is_accepted}
-use Rattle.analog.specs.declared.Answer.{Answer}
-use Rattle.analog.specs.declared.Answer.TheVariants.{Accepted}
-use Rattle.pmc330_model.specs.Map.{Register, unmapped, interrupt, control, prescaler, timer, channels, start_convert, new_data, missed_data, gain, mailbox, low_words, word_at, class_of, is_mapped, is_readable}
+use Rattle.analog.specs.Answers.{first_no, value_of, is_accepted, Answer}
+use Rattle.analog.proofs.AnswerLaws.{none_asked, answered_ok}
+use Rattle.pmc330_model.specs.Map.{low_words, word_at, class_of, is_mapped, is_readable}
+use Rattle.pmc330_model.specs.declared.Register.{Register}
+use Rattle.pmc330_model.specs.declared.Register.TheVariants.{Unmapped, Interrupt, Control, Prescaler, Timer, Channels, StartConvert, NewData, MissedData, Gain, Mailbox}
 use Rattle.pmc330_model.specs.Words.{joined, to_bit, bit_of, held_word, read_word, look_value}
 use Rattle.pmc330_model.specs.Questions.{read_questions, call_questions}
 use Rattle.pmc330_model.specs.Board.{view_of, value_of_call, board_call, read_call}
@@ -23,6 +24,7 @@ use Rattle.pmc330_model.specs.Sentences.{ReadsBit, Sentence3}
 use Rattle.pmc330_model.specs.declared.Board.{Board}
 use Rattle.pmc330_model.proofs.Cases.{lt_or_le}
 use Rattle.pmc330_model.proofs.Agreement.{book_of, Agrees}
+use Rattle.std.specs.Prelude.{Ok}
 
 -- ---- a word of digits to a base
 
@@ -76,23 +78,23 @@ joined_same base f g (suc n) same =
 
 -- a slot is below 32, a half below 2 and a group of gains below 4: the agreement is about no others
 abbrev Placed : Register → Type 0
-Placed unmapped = Unit
-Placed interrupt = Unit
-Placed control = Unit
-Placed prescaler = Unit
-Placed timer = Unit
-Placed channels = Unit
-Placed start_convert = Unit
-Placed (new_data half) = half < 2
-Placed (missed_data half) = half < 2
-Placed (gain group) = group < 4
-Placed (mailbox slot) = slot < 32
+Placed Unmapped = Unit
+Placed Interrupt = Unit
+Placed Control = Unit
+Placed Prescaler = Unit
+Placed Timer = Unit
+Placed Channels = Unit
+Placed StartConvert = Unit
+Placed (NewData half) = half < 2
+Placed (MissedData half) = half < 2
+Placed (Gain group) = group < 4
+Placed (Mailbox slot) = slot < 32
 
 abbrev AllPlaced : List Register → Type 0
 AllPlaced [] = Unit
 AllPlaced (x ∷ xs) = Placed x × AllPlaced xs
 
-placed_in : (xs : List Register) (n : ℕ) → AllPlaced xs → Placed (get_or xs n unmapped)
+placed_in : (xs : List Register) (n : ℕ) → AllPlaced xs → Placed (get_or xs n Unmapped)
 placed_in [] n all = tt
 placed_in (x ∷ xs) zero all = all.0
 placed_in (x ∷ xs) (suc n) all = placed_in xs n all.1
@@ -121,17 +123,17 @@ pub record ReadAt (n : ℕ) (register : Register) : Type 0 where
   pub mapped : is_mapped register ≡ true
   pub readable : is_readable register ≡ true
 
-pub mailbox_at : (s : ℕ) → s < 32 → ReadAt (0x20 + s) (mailbox s)
+pub mailbox_at : (s : ℕ) → s < 32 → ReadAt (0x20 + s) (Mailbox s)
 unfolding word_at
 mailbox_at s h = record { low = omega arith; is = word; mapped = refl; readable = refl }
   where
     past : (k : ℕ) → k ≤ 0x20 → ltb (0x20 + s) k ≡ false
     past k most = le-ltb (0x20 + s) k (omega arith)
 
-    word : word_at (0x20 + s) ≡ mailbox s
+    word : word_at (0x20 + s) ≡ Mailbox s
     word =
         rw (past 0x10 (omega arith), past 0x14 (omega arith), past 0x20 (omega arith), lt-ltb (0x20 + s) 0x40 (omega arith))
-        (ap mailbox (add-sub_cancel_left 0x20 s))
+        (ap Mailbox (add-sub_cancel_left 0x20 s))
 
 -- New Data and Missed Data are two words each
 of_halves : (P : ℕ → Type 0) → P 0 → P 1 → (half : ℕ) → half < 2 → P half
@@ -139,21 +141,21 @@ of_halves P lower upper zero h = lower
 of_halves P lower upper (suc zero) h = upper
 of_halves P lower upper (suc (suc n)) h = absurd (omega arith)
 
-new_data_at : (half : ℕ) → half < 2 → ReadAt (5 + half) (new_data half)
+new_data_at : (half : ℕ) → half < 2 → ReadAt (5 + half) (NewData half)
 unfolding word_at
 new_data_at half h = record { low = omega arith; is = word; mapped = refl; readable = refl }
   where
-    word : word_at (5 + half) ≡ new_data half
-    word = of_halves (λ x. word_at (5 + x) ≡ new_data x) refl refl half h
+    word : word_at (5 + half) ≡ NewData half
+    word = of_halves (λ x. word_at (5 + x) ≡ NewData x) refl refl half h
 
-missed_data_at : (half : ℕ) → half < 2 → ReadAt (7 + half) (missed_data half)
+missed_data_at : (half : ℕ) → half < 2 → ReadAt (7 + half) (MissedData half)
 unfolding word_at
 missed_data_at half h = record { low = omega arith; is = word; mapped = refl; readable = refl }
   where
-    word : word_at (7 + half) ≡ missed_data half
-    word = of_halves (λ x. word_at (7 + x) ≡ missed_data x) refl refl half h
+    word : word_at (7 + half) ≡ MissedData half
+    word = of_halves (λ x. word_at (7 + x) ≡ MissedData x) refl refl half h
 
-interrupt_at : ReadAt 0 interrupt
+interrupt_at : ReadAt 0 Interrupt
 unfolding word_at
 interrupt_at = record { low = omega arith; is = refl; mapped = refl; readable = refl }
 
@@ -177,12 +179,13 @@ word_met n offset register e place =
 word_read :
     (b : Board) (n offset : ℕ) (register : Register) → offset ≡ 4 * n → ReadAt n register
     → read_word (view_of b) register < 65536
-    → (read_call b 16 offset).answer ≡ Accepted (read_word (view_of b) register)
-unfolding board_call call_questions answered value_of_call
+    → (read_call b 16 offset).answer ≡ Ok (read_word (view_of b) register)
+unfolding board_call call_questions value_of_call
 word_read b n offset register e place small =
     let first : offset % 4 ≡ 0 = omega arith in
-    rw (word_met n offset register e place, class_is n 0 offset (omega arith) (omega arith), place.is, first)
-    (ap Accepted (omega arith))
+    answered_ok (read_questions 16 offset (class_of offset)) _ (none_asked _ (word_met n offset register e place))
+    ∙ rw (class_is n 0 offset (omega arith) (omega arith), place.is, first)
+    (ap Ok (omega arith))
 
 -- ---- bits
 
@@ -242,17 +245,17 @@ module _ (b : Board) (tick : ℕ) (cycle : Running) (events : List Event) where
 
     same_word : (register : Register) → Placed register → read_word (view_of b) register ≡ logged register
     unfolding read_word
-    same_word unmapped fits = refl
-    same_word interrupt fits = rw agrees.memory.interrupt
-    same_word control fits = refl
-    same_word prescaler fits = refl
-    same_word timer fits = refl
-    same_word channels fits = refl
-    same_word start_convert fits = refl
-    same_word (new_data half) fits = flags_same 1 half (omega arith) fits
-    same_word (missed_data half) fits = flags_same 2 half (omega arith) fits
-    same_word (gain group) fits = refl
-    same_word (mailbox slot) fits = agrees.memory.code slot fits
+    same_word Unmapped fits = refl
+    same_word Interrupt fits = rw agrees.memory.interrupt
+    same_word Control fits = refl
+    same_word Prescaler fits = refl
+    same_word Timer fits = refl
+    same_word Channels fits = refl
+    same_word StartConvert fits = refl
+    same_word (NewData half) fits = flags_same 1 half (omega arith) fits
+    same_word (MissedData half) fits = flags_same 2 half (omega arith) fits
+    same_word (Gain group) fits = refl
+    same_word (Mailbox slot) fits = agrees.memory.code slot fits
 
     pub words_agree :
         (offset : ℕ)
@@ -271,9 +274,9 @@ module _ (b : Board) (tick : ℕ) (cycle : Running) (events : List Event) where
     -- a 16-bit read of the board gives the logbook's word
     logged_read :
         (n offset : ℕ) (register : Register) → offset ≡ 4 * n → ReadAt n register → logged register < 65536
-        → (read_call b 16 offset).answer ≡ Accepted (logged register)
+        → (read_call b 16 offset).answer ≡ Ok (logged register)
     logged_read n offset register e place small =
-        word_read b n offset register e place (rw same small) ∙ ap Accepted same
+        word_read b n offset register e place (rw same small) ∙ ap Ok same
       where
         same : read_word (view_of b) register ≡ logged register
         same = rw (class_is n 0 offset (omega arith) (omega arith), place.is) at (words_agree offset)
@@ -286,26 +289,26 @@ module _ (b : Board) (tick : ℕ) (cycle : Running) (events : List Event) where
     flag_read k first s register place word =
         record { accepted = ap is_accepted given; shown = ap (λ (a : Answer). bit_of (s % 16) (value_of a)) given ∙ flag_bit (reaches k) s }
       where
-        given : (read_call b 16 (4 * first + 4 * (s / 16))).answer ≡ Accepted (flag_word (reaches k) (s / 16))
+        given : (read_call b 16 (4 * first + 4 * (s / 16))).answer ≡ Ok (flag_word (reaches k) (s / 16))
         given =
             logged_read (first + s / 16) (4 * first + 4 * (s / 16)) register (omega arith) place (rw word (flag_small (reaches k) (s / 16)))
-            ∙ ap Accepted word
+            ∙ ap Ok word
 
     pending_read : ReadsBit b 0x00 1 (interrupted events)
     unfolding read_word held_word
     pending_read =
         let enable : Bool = b.registers.enable in
-        let given = logged_read 0 0 interrupt refl interrupt_at (omega (arith, bit_small enable, bit_small (interrupted events))) in
+        let given = logged_read 0 0 Interrupt refl interrupt_at (omega (arith, bit_small enable, bit_small (interrupted events))) in
         record {
           accepted = ap is_accepted given;
           shown = ap (λ (a : Answer). bit_of 1 (value_of a)) given ∙ pending_bit enable (interrupted events);
         }
 
     -- a code is read whole because it fits 16 bits
-    mailbox_read : (s : ℕ) → s < 32 → (read_call b 16 (0x80 + 4 * s)).answer ≡ Accepted (last_store s events)
+    mailbox_read : (s : ℕ) → s < 32 → (read_call b 16 (0x80 + 4 * s)).answer ≡ Ok (last_store s events)
     unfolding read_word
     mailbox_read s h =
-        logged_read (0x20 + s) (0x80 + 4 * s) (mailbox s) (omega arith) (mailbox_at s h)
+        logged_read (0x20 + s) (0x80 + 4 * s) (Mailbox s) (omega arith) (mailbox_at s h)
         (omega (arith, agrees.memory.small s, agrees.memory.code s h))
 
     pub sentence3_of : Sentence3 b (book_of b tick cycle events)
@@ -313,8 +316,8 @@ module _ (b : Board) (tick : ℕ) (cycle : Running) (events : List Event) where
     sentence3_of =
         record {
           mailbox = mailbox_read;
-          new_data = λ s h. flag_read 1 5 s (new_data (s / 16)) (new_data_at (s / 16) (omega arith)) refl;
-          missed_data = λ s h. flag_read 2 7 s (missed_data (s / 16)) (missed_data_at (s / 16) (omega arith)) refl;
+          new_data = λ s h. flag_read 1 5 s (NewData (s / 16)) (new_data_at (s / 16) (omega arith)) refl;
+          missed_data = λ s h. flag_read 2 7 s (MissedData (s / 16)) (missed_data_at (s / 16) (omega arith)) refl;
           pending = pending_read;
           line = ap (λ (t : Bool). b.registers.enable && t) agrees.memory.interrupt;
         }

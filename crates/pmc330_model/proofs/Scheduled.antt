@@ -11,7 +11,9 @@ use lib.ListN.{length}
 use borrow.Author.Tests.{eq-eqb, ne_eqb, eqb-true, le-leb, leb-true}
 use Rattle.analog.specs.Answers.{first_no, all_met}
 use Rattle.analog.proofs.AnswerLaws.{none_first, some_first}
-use Rattle.pmc330_model.specs.Map.{Register, unmapped, interrupt, control, prescaler, timer, channels, start_convert, new_data, missed_data, gain, mailbox, class_of, trigger_field}
+use Rattle.pmc330_model.specs.Map.{class_of, trigger_field}
+use Rattle.pmc330_model.specs.declared.Register.{Register}
+use Rattle.pmc330_model.specs.declared.Register.TheVariants.{Unmapped, Interrupt, Control, Prescaler, Timer, Channels, StartConvert, NewData, MissedData, Gain, Mailbox}
 use Rattle.pmc330_model.specs.Words.{is_release, is_stop, is_start}
 use Rattle.pmc330_model.specs.Schedule.{is_burst, is_single, is_timed, is_trigger_only, channel_of, ends_pass, code_at, begins_at, is_scheduled, Due, none, conversion, or_else, first_from}
 use Rattle.pmc330_model.specs.Calls.{Call, read, write, input, advance, trigger, reset, look, clear}
@@ -22,7 +24,7 @@ use Rattle.pmc330_model.specs.declared.Registers.{Registers}
 use Rattle.pmc330_model.proofs.Agreement.{Startable}
 use Rattle.pmc330_model.proofs.Cases.{lt_or_le, true_or_false, and_left, and_right, never}
 use Rattle.pmc330_model.proofs.Due.{due_found, due_none, unscheduled_later, scheduled_next}
-use Rattle.pmc330_model.proofs.QuestionLaws.{questions_numbered, running_unstarted}
+use Rattle.pmc330_model.proofs.QuestionLaws.{running_unstarted}
 use Rattle.pmc330_model.proofs.Schedule.{before, search_none}
 
 -- ---- the search
@@ -255,17 +257,17 @@ if_starts l written false h = h
 pub read_either :
     (P : List Event → Type 0) (register : Register) (events : List Event) → P events → ((slot : ℕ) → P (was_read slot ∷ events))
     → P (read_event register events)
-read_either P unmapped events same more = same
-read_either P interrupt events same more = same
-read_either P control events same more = same
-read_either P prescaler events same more = same
-read_either P timer events same more = same
-read_either P channels events same more = same
-read_either P start_convert events same more = same
-read_either P (new_data half) events same more = same
-read_either P (missed_data half) events same more = same
-read_either P (gain group) events same more = same
-read_either P (mailbox slot) events same more = more slot
+read_either P Unmapped events same more = same
+read_either P Interrupt events same more = same
+read_either P Control events same more = same
+read_either P Prescaler events same more = same
+read_either P Timer events same more = same
+read_either P Channels events same more = same
+read_either P StartConvert events same more = same
+read_either P (NewData half) events same more = same
+read_either P (MissedData half) events same more = same
+read_either P (Gain group) events same more = same
+read_either P (Mailbox slot) events same more = more slot
 
 write_still : (register : Register) (word : ℕ) (l : Logbook) → Still l (writes register word l)
 unfolding writes stores_among
@@ -568,6 +570,6 @@ ticks_counted_lem l =
       refused = λ call unmet.
           ap (λ (t : Bool). cond t (happens l call) l)
           (ne_eqb (first_no (logbook_questions l call)) 0 (λ none.
-          omega (arith, some_first (logbook_questions l call) (questions_numbered l.registers l.gains (is_idle l.cycle) call) unmet)));
+          omega (arith, some_first (logbook_questions l call) unmet)));
       others = λ call timeless. either (λ after. after.tick ≡ l.tick) l call (λ met. timeless_tick l call timeless) refl;
     }

@@ -1,5 +1,5 @@
 -- The sentences of the data sheet, proved. Their statements are in specs/Sentences.antt.
-use mathlib.Core.Bool.{Bool, true, not, cond, false≢true}
+use mathlib.Core.Bool.{Bool, true, cond, false≢true}
 use mathlib.Core.List.{List, [], ◌∷◌}
 use mathlib.Core.Logic.{⊎_elim}
 use mathlib.Core.Path.{◌≡◌, refl, sym, ap, ap₂, subst, ◌∙◌}
@@ -7,10 +7,9 @@ use Prim.Native.Nat.{ℕ, zero, suc, ◌+◌, ◌≤◌, ◌<◌}
 use native.Mathlib.Nat.{zero-add, add_assoc, suc-add}
 use native.Mathlib.Omega.{arith}
 use borrow.Author.Tests.{ne_eqb, le-leb, lt-leb}
-use Rattle.analog.specs.Answers.{Question, first_no, answered, value_of, is_accepted}
+use Rattle.analog.specs.Answers.{Question, first_no, asked, answered, value_of, is_accepted}
 use Rattle.analog.specs.Sums.{sum_of}
-use Rattle.analog.specs.declared.Answer.TheVariants.{Accepted}
-use Rattle.analog.proofs.AnswerLaws.{numbered, some_first, answered_by}
+use Rattle.analog.proofs.AnswerLaws.{some_first, answered_by}
 use Rattle.pmc330_model.specs.Calls.{Call}
 use Rattle.pmc330_model.specs.Board.{new_board, ticked, advanced, is_store_due, stores_in, questions_of, after_call, value_of_call, board_call, advance_call, board_from, answers_from, board_after}
 use Rattle.pmc330_model.specs.Logbook.{Running, since, Logbook, was_reset, idle, new_logbook, logged, logged_answer, logged_from, logged_answers_from, logbook_of}
@@ -21,9 +20,9 @@ use Rattle.pmc330_model.proofs.Agreement.{Startable, CycleAgrees, Related}
 use Rattle.pmc330_model.proofs.CallsAgree.{questions_same, answer_same, call_agrees}
 use Rattle.pmc330_model.proofs.Cases.{lt_or_le}
 use Rattle.pmc330_model.proofs.Memory.{memory_reset}
-use Rattle.pmc330_model.proofs.QuestionLaws.{questions_numbered}
 use Rattle.pmc330_model.proofs.Reading.{sentence3_of}
 use Rattle.pmc330_model.proofs.Scheduled.{scheduled, ticks_counted_lem}
+use Rattle.std.specs.Prelude.{Ok}
 
 -- ---- sentence 1
 
@@ -31,17 +30,14 @@ pub sentence1 : EveryCall1
 unfolding board_call
 sentence1 b call =
     record {
-      answer = answered_by (questions_of b call) (value_of_call b call) numbers;
+      answer = answered_by (questions_of b call) (value_of_call b call);
       board = λ no.
           ap (λ (t : Bool). cond t (after_call b call) b)
-          (ne_eqb (first_no (questions_of b call)) 0 (λ none. omega (arith, some_first (questions_of b call) numbers no)));
+          (ne_eqb (first_no (questions_of b call)) 0 (λ none. omega (arith, some_first (questions_of b call) no)));
     }
-  where
-    numbers : numbered (questions_of b call) ≡ true
-    numbers = questions_numbered b.registers b.gains (not b.cycle.running) call
 
 pub new_boards : EveryNew1
-unfolding answered first_no
+unfolding asked answered first_no
 new_boards range =
     record {
       accepted = λ h. rw (le-leb range 3 h);
@@ -139,7 +135,7 @@ stores_add (suc n) k b =
 
 -- an advance is accepted exactly up to the most ticks
 accepted_most : (b : Board) (n : ℕ) → is_accepted (advance_call b n).answer ≡ true → n ≤ 16_777_216
-unfolding board_call call_questions first_no answered
+unfolding board_call call_questions first_no asked answered
 accepted_most b n e =
     ⊎_elim
     (λ (more : 16_777_216 < n). absurd (false≢true (rw (lt-leb n 16_777_216 more) at e)))
@@ -151,8 +147,8 @@ module _ (b : Board) (n : ℕ) (most : n ≤ 16_777_216) where
   unfolding board_call call_questions first_no after_call
   accepted_board = rw (le-leb n 16_777_216 most)
 
-  pub accepted_answer : (advance_call b n).answer ≡ Accepted (stores_in n b)
-  unfolding board_call call_questions first_no answered value_of_call
+  pub accepted_answer : (advance_call b n).answer ≡ Ok (stores_in n b)
+  unfolding board_call call_questions first_no asked answered value_of_call
   accepted_answer = rw (le-leb n 16_777_216 most)
 
   accepted_is : is_accepted (advance_call b n).answer ≡ true

@@ -10,7 +10,9 @@ use lib.Dec.{eqb, ltb, leb}
 use borrow.Author.Tests.{eq-eqb, eqb-true, lt-ltb, le-leb, leb-true, not-true}
 use Rattle.analog.specs.Answers.{first_no, all_met}
 use Rattle.analog.proofs.AnswerLaws.{some_first}
-use Rattle.pmc330_model.specs.Map.{Register, unmapped, interrupt, control, prescaler, timer, channels, start_convert, new_data, missed_data, gain, mailbox, class_of, scan_field, word_at}
+use Rattle.pmc330_model.specs.Map.{class_of, scan_field, word_at}
+use Rattle.pmc330_model.specs.declared.Register.{Register}
+use Rattle.pmc330_model.specs.declared.Register.TheVariants.{Unmapped, Interrupt, Control, Prescaler, Timer, Channels, StartConvert, NewData, MissedData, Gain, Mailbox}
 use Rattle.pmc330_model.specs.Words.{with_word, bit_of, is_stop, is_start, joined, held_word, written_word}
 use Rattle.pmc330_model.specs.Schedule.{pass_length, is_differential, is_uniform, is_single, is_continuous, is_timed, is_trigger_only, is_burst, channel_of, in_odd_pass, slot_of, ends_pass, begins_at, pass_ticks, is_scheduled, Due, none, conversion, first_from}
 use Rattle.pmc330_model.specs.Calls.{Call, read, write, input, advance, trigger, reset, look, clear}
@@ -22,7 +24,7 @@ use Rattle.pmc330_model.specs.declared.Registers.{Registers}
 use Rattle.pmc330_model.proofs.Agreement.{Startable}
 use Rattle.pmc330_model.proofs.Cases.{true_or_false, and_left, and_right, or_right, never}
 use Rattle.pmc330_model.proofs.Passes.{falls, later_begins, later_channel, later_slot, begins_within, stored_within, pass_some}
-use Rattle.pmc330_model.proofs.QuestionLaws.{questions_numbered, running_allowed, running_unstarted}
+use Rattle.pmc330_model.proofs.QuestionLaws.{running_allowed, running_unstarted}
 use Rattle.pmc330_model.proofs.Scheduled.{ends_cycle, next, tick_is, either, start_still, read_either, triggered, start_cycle, ticks_cycle, scheduled}
 use Rattle.pmc330_model.proofs.Theorems.{after, related_call, running_startable}
 use Rattle.pmc330_model.proofs.Writes.{enabled, startable_kept, kept_scan}
@@ -186,7 +188,7 @@ module _ (r : Registers) (T : ℕ) (startable : Startable r) (continuous : is_co
 
   module _ (l : Logbook) (h : Runs l) where
     -- the board enable, and a release or none
-    interrupt_runs : (word : ℕ) → Runs (writes interrupt word l)
+    interrupt_runs : (word : ℕ) → Runs (writes Interrupt word l)
     unfolding writes with_word any_store
     interrupt_runs word =
         record {
@@ -206,18 +208,18 @@ module _ (r : Registers) (T : ℕ) (startable : Startable r) (continuous : is_co
         (register : Register) (word : ℕ) → is_allowed false register word (with_word register word l.registers) ≡ true
         → is_stop register word ≡ false → is_start register word ≡ false → Runs (writes register word l)
     unfolding writes with_word
-    write_runs unmapped word allowed on unstarted = absurd (false≢true allowed)
-    write_runs interrupt word allowed on unstarted = interrupt_runs word
-    write_runs control word allowed on unstarted =
+    write_runs Unmapped word allowed on unstarted = absurd (false≢true allowed)
+    write_runs Interrupt word allowed on unstarted = interrupt_runs word
+    write_runs Control word allowed on unstarted =
         never (eqb (scan_field word) 0) (subst (λ (n : ℕ). eqb n 0 ≡ true) (kept_scan word) allowed) on
-    write_runs prescaler word allowed on unstarted = absurd (false≢true allowed)
-    write_runs timer word allowed on unstarted = absurd (false≢true allowed)
-    write_runs channels word allowed on unstarted = absurd (false≢true allowed)
-    write_runs start_convert word allowed on unstarted = subst (λ (t : Bool). Runs (cond t (starts l) l)) (sym unstarted) h
-    write_runs (new_data half) word allowed on unstarted = absurd (false≢true allowed)
-    write_runs (missed_data half) word allowed on unstarted = absurd (false≢true allowed)
-    write_runs (gain group) word allowed on unstarted = absurd (false≢true allowed)
-    write_runs (mailbox slot) word allowed on unstarted = absurd (false≢true allowed)
+    write_runs Prescaler word allowed on unstarted = absurd (false≢true allowed)
+    write_runs Timer word allowed on unstarted = absurd (false≢true allowed)
+    write_runs Channels word allowed on unstarted = absurd (false≢true allowed)
+    write_runs StartConvert word allowed on unstarted = subst (λ (t : Bool). Runs (cond t (starts l) l)) (sym unstarted) h
+    write_runs (NewData half) word allowed on unstarted = absurd (false≢true allowed)
+    write_runs (MissedData half) word allowed on unstarted = absurd (false≢true allowed)
+    write_runs (Gain group) word allowed on unstarted = absurd (false≢true allowed)
+    write_runs (Mailbox slot) word allowed on unstarted = absurd (false≢true allowed)
 
     -- a trigger is ignored
     trigger_runs : Runs (trigger_comes l)
@@ -240,8 +242,7 @@ module _ (r : Registers) (T : ℕ) (startable : Startable r) (continuous : is_co
         absurd
         (omega (
           arith,
-          some_first (logbook_questions l (write width offset value))
-              (questions_numbered l.registers l.gains (is_idle l.cycle) (write width offset value)) some,
+          some_first (logbook_questions l (write width offset value)) some,
         )))
         (true_or_false (all_met (logbook_questions l (write width offset value))))
 
@@ -321,25 +322,25 @@ module _ (l : Logbook) (stood : is_idle l.cycle ≡ true) where
 
   write_starts : (register : Register) (word : ℕ) → Started (writes register word l)
   unfolding writes with_word
-  write_starts unmapped word = stands _ stood
-  write_starts interrupt word = stands _ stood
-  write_starts control word = stands _ (go (eqb (scan_field word) 0))
+  write_starts Unmapped word = stands _ stood
+  write_starts Interrupt word = stands _ stood
+  write_starts Control word = stands _ (go (eqb (scan_field word) 0))
     where
       go : (stops : Bool) → is_idle (cond stops idle l.cycle) ≡ true
       go true = refl
       go false = stood
-  write_starts prescaler word = stands _ stood
-  write_starts timer word = stands _ stood
-  write_starts channels word = stands _ stood
-  write_starts start_convert word = go (bit_of 0 word)
+  write_starts Prescaler word = stands _ stood
+  write_starts Timer word = stands _ stood
+  write_starts Channels word = stands _ stood
+  write_starts StartConvert word = go (bit_of 0 word)
     where
       go : (start : Bool) → Started (cond start (starts l) l)
       go true busy = refl
       go false busy = stands l stood busy
-  write_starts (new_data half) word = stands _ stood
-  write_starts (missed_data half) word = stands _ stood
-  write_starts (gain group) word = stands _ stood
-  write_starts (mailbox slot) word = stands _ stood
+  write_starts (NewData half) word = stands _ stood
+  write_starts (MissedData half) word = stands _ stood
+  write_starts (Gain group) word = stands _ stood
+  write_starts (Mailbox slot) word = stands _ stood
 
   -- in a mode other than external trigger only
   module _ (untriggered : is_trigger_only l.registers ≡ false) where

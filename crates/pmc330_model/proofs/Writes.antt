@@ -7,7 +7,9 @@ use Prim.Native.Nat.{ℕ, ◌/◌, ◌%◌, ◌≤◌}
 use native.Mathlib.Omega.{arith}
 use lib.Dec.{eqb, leb}
 use borrow.Author.Tests.{leb-true}
-use Rattle.pmc330_model.specs.Map.{Register, unmapped, interrupt, control, prescaler, timer, channels, start_convert, new_data, missed_data, gain, mailbox, trigger_field, acquisition_field, scan_field, interrupt_field, kept_control}
+use Rattle.pmc330_model.specs.Map.{trigger_field, acquisition_field, scan_field, interrupt_field, kept_control}
+use Rattle.pmc330_model.specs.declared.Register.{Register}
+use Rattle.pmc330_model.specs.declared.Register.TheVariants.{Unmapped, Interrupt, Control, Prescaler, Timer, Channels, StartConvert, NewData, MissedData, Gain, Mailbox}
 use Rattle.pmc330_model.specs.Words.{with_word, gains_with, bit_of, is_release, is_stop, is_start}
 use Rattle.pmc330_model.specs.Schedule.{begins_at}
 use Rattle.pmc330_model.specs.Board.{word_written, idle_cycle, started, after_write}
@@ -150,7 +152,7 @@ module _ (b : Board) (tick : ℕ) (cycle : Running) (events : List Event) (agree
   new_registers : (r : Registers) → Limits r → is_idle cycle ≡ true → Agrees (record { range = b.range; inputs = b.inputs; gains = b.gains; codes = b.codes; unread = b.unread; pending = b.pending && true; registers = r; held = b.held; cycle = b.cycle }) tick cycle events
   new_registers r limits e = record { memory = kept_memory; held = agrees.held; limits = limits; running = when_idle r e }
 
-  interrupt_written : (word : ℕ) → Written interrupt word
+  interrupt_written : (word : ℕ) → Written Interrupt word
   unfolding with_word
   interrupt_written word =
       record {
@@ -164,7 +166,7 @@ module _ (b : Board) (tick : ℕ) (cycle : Running) (events : List Event) (agree
       memory true = rw (and_false b.pending) (memory_release events b.codes b.unread b.pending agrees.memory)
       memory false = kept_memory
 
-  control_written : (word : ℕ) → is_allowed (is_idle cycle) control word (with_word control word b.registers) ≡ true → is_valid control (with_word control word b.registers) ≡ true → Written control word
+  control_written : (word : ℕ) → is_allowed (is_idle cycle) Control word (with_word Control word b.registers) ≡ true → is_valid Control (with_word Control word b.registers) ≡ true → Written Control word
   unfolding with_word
   control_written word allowed valid =
       record {
@@ -179,21 +181,21 @@ module _ (b : Board) (tick : ℕ) (cycle : Running) (events : List Event) (agree
         running = running (eqb (scan_field word) 0) (subst (λ (n : ℕ). (is_idle cycle || eqb n 0) ≡ true) (kept_scan word) allowed);
       }
     where
-      running : (stops : Bool) → (is_idle cycle || stops) ≡ true → CycleAgrees (with_word control word b.registers) tick (cond stops idle cycle) (cond stops idle_cycle b.cycle)
+      running : (stops : Bool) → (is_idle cycle || stops) ≡ true → CycleAgrees (with_word Control word b.registers) tick (cond stops idle cycle) (cond stops idle_cycle b.cycle)
       running true e = refl
-      running false e = when_idle (with_word control word b.registers) (idle_only e)
+      running false e = when_idle (with_word Control word b.registers) (idle_only e)
 
   -- the board and the logbook after the word is written
   written_agrees : (register : Register) (word : ℕ) → is_allowed (is_idle cycle) register word (with_word register word b.registers) ≡ true → is_valid register (with_word register word b.registers) ≡ true → Written register word
   unfolding with_word
-  written_agrees unmapped word allowed valid = same_registers b.gains
-  written_agrees interrupt word allowed valid = interrupt_written word
-  written_agrees control word allowed valid = control_written word allowed valid
-  written_agrees prescaler word allowed valid =
+  written_agrees Unmapped word allowed valid = same_registers b.gains
+  written_agrees Interrupt word allowed valid = interrupt_written word
+  written_agrees Control word allowed valid = control_written word allowed valid
+  written_agrees Prescaler word allowed valid =
       new_registers _ (record { scan = agrees.limits.scan; start = agrees.limits.start; end = agrees.limits.end }) (idle_only allowed)
-  written_agrees timer word allowed valid =
+  written_agrees Timer word allowed valid =
       new_registers _ (record { scan = agrees.limits.scan; start = agrees.limits.start; end = agrees.limits.end }) (idle_only allowed)
-  written_agrees channels word allowed valid =
+  written_agrees Channels word allowed valid =
       new_registers _
       (record {
         scan = agrees.limits.scan;
@@ -201,26 +203,26 @@ module _ (b : Board) (tick : ℕ) (cycle : Running) (events : List Event) (agree
         end = leb-true (word / 0x100) 31 (and_right (leb (word % 0x100) 31) _ valid);
       })
       (idle_only allowed)
-  written_agrees start_convert word allowed valid = same_registers b.gains
-  written_agrees (new_data half) word allowed valid = same_registers b.gains
-  written_agrees (missed_data half) word allowed valid = same_registers b.gains
-  written_agrees (gain group) word allowed valid = same_registers (gains_with (gain group) word b.gains)
-  written_agrees (mailbox slot) word allowed valid = same_registers b.gains
+  written_agrees StartConvert word allowed valid = same_registers b.gains
+  written_agrees (NewData half) word allowed valid = same_registers b.gains
+  written_agrees (MissedData half) word allowed valid = same_registers b.gains
+  written_agrees (Gain group) word allowed valid = same_registers (gains_with (Gain group) word b.gains)
+  written_agrees (Mailbox slot) word allowed valid = same_registers b.gains
 
   -- a start leaves the registers as they are
   start_keeps : (register : Register) (word : ℕ) → is_start register word ≡ true → with_word register word b.registers ≡ b.registers
   unfolding with_word
-  start_keeps unmapped word e = refl
-  start_keeps interrupt word e = absurd (false≢true e)
-  start_keeps control word e = absurd (false≢true e)
-  start_keeps prescaler word e = absurd (false≢true e)
-  start_keeps timer word e = absurd (false≢true e)
-  start_keeps channels word e = absurd (false≢true e)
-  start_keeps start_convert word e = refl
-  start_keeps (new_data half) word e = refl
-  start_keeps (missed_data half) word e = refl
-  start_keeps (gain group) word e = refl
-  start_keeps (mailbox slot) word e = refl
+  start_keeps Unmapped word e = refl
+  start_keeps Interrupt word e = absurd (false≢true e)
+  start_keeps Control word e = absurd (false≢true e)
+  start_keeps Prescaler word e = absurd (false≢true e)
+  start_keeps Timer word e = absurd (false≢true e)
+  start_keeps Channels word e = absurd (false≢true e)
+  start_keeps StartConvert word e = refl
+  start_keeps (NewData half) word e = refl
+  start_keeps (MissedData half) word e = refl
+  start_keeps (Gain group) word e = refl
+  start_keeps (Mailbox slot) word e = refl
 
   module _ (register : Register) (word : ℕ) (next : Written register word) where
     starting : is_start register word ≡ true → has_channels b.registers ≡ true → has_interval b.registers ≡ true → (scan_field b.registers.control ≡ 0 → ⊥)

@@ -1,12 +1,13 @@
 -- Document 01, "Bench cases": the cases marked *, as one table with one claim.
-use Rattle.std.specs.Prelude.{ℕ, Bool, true, false, List, [], ◌∷◌, ◌++◌, ◌≡◌, ℤ, pos, neg_ℤ}
+use Rattle.std.specs.Prelude.{ℕ, Bool, true, false, List, [], ◌∷◌, ◌++◌, ◌≡◌, ℤ, pos, neg_ℤ, Ok, Err}
 use Rattle.analog.specs.Code.{code_of, in_format}
 use Rattle.analog.specs.Correction.{corrected_answer}
-use Rattle.analog.specs.declared.Answer.{Answer}
-use Rattle.analog.specs.declared.Answer.TheVariants.{Accepted, Refused}
 use Rattle.pmc330_model.specs.Schedule.{interval}
 use Rattle.pmc330_model.specs.Calls.{Call, read, write, advance}
 use Rattle.pmc330_model.specs.Board.{board_after, answers_of}
+use Rattle.analog.specs.Answers.{Answer}
+use Rattle.analog.specs.declared.Refusal.{Refusal}
+use Rattle.analog.specs.declared.Refusal.TheVariants.{Busy, BadInterval, BadChannels}
 
 infix 68 ◌gives◌ ◌is_refused_by◌
 -- a call and the answer that it is to have
@@ -15,10 +16,10 @@ pub record Step : Type 0 where
   pub answer : Answer
 
 abbrev pub ◌gives◌ : Call → (value : ℕ) → Step
-call gives value = record { call = call; answer = Accepted value }
+call gives value = record { call = call; answer = Ok value }
 
-abbrev pub ◌is_refused_by◌ : Call → (number : ℕ) → Step
-call is_refused_by number = record { call = call; answer = Refused number }
+abbrev pub ◌is_refused_by◌ : Call → Refusal → Step
+call is_refused_by refusal = record { call = call; answer = Err refusal }
 
 abbrev pub calls_of : List Step → List Call
 calls_of [] = []
@@ -43,7 +44,7 @@ Holds (answers steps) = answers_of 1 (calls_of steps) ≡ expected_of steps
 Holds (interval_is expected steps) = interval (board_after 1 (calls_of steps)).registers ≡ expected
 Holds (code_is range gain v straight expected) = in_format straight (code_of range gain v) ≡ expected
 Holds (corrected_to range gain high low high_sum low_sum raw expected) =
-    corrected_answer range gain high low high_sum low_sum raw ≡ Accepted expected
+    corrected_answer range gain high low high_sum low_sum raw ≡ Ok expected
 
 abbrev pub AllHold : List Case → Type 0
 AllHold [] = Unit
@@ -90,7 +91,7 @@ uniform_single =
     -- at 7103
     ∷ advance 6399 gives 9
     ∷ new_low gives 0x1ff8
-    ∷ if_idle is_refused_by 6
+    ∷ if_idle is_refused_by Busy
     -- at 7104
     ∷ advance 1 gives 1
     ∷ new_low gives 0x3ff8
@@ -141,17 +142,17 @@ burst_continuous =
 
 -- "Uniform, prescaler × timer 64 × 1 starts; 63 × 1 gives 10."
 abbrev pub slow_enough : (control : ℕ) → List Step
-slow_enough control = registers control 0x0000 ++ times 64 1 ++ start gives 0 ∷ if_idle is_refused_by 6 ∷ []
+slow_enough control = registers control 0x0000 ++ times 64 1 ++ start gives 0 ∷ if_idle is_refused_by Busy ∷ []
 
 abbrev pub too_fast : (control : ℕ) → List Step
-too_fast control = registers control 0x0000 ++ times 63 1 ++ start is_refused_by 10 ∷ if_idle gives 0 ∷ []
+too_fast control = registers control 0x0000 ++ times 63 1 ++ start is_refused_by BadInterval ∷ if_idle gives 0 ∷ []
 
 -- "Differential End 15 starts; 16 gives 9."
 abbrev pub last_pair : List Step
-last_pair = registers 0x0401 0x0f00 ++ start gives 0 ∷ if_idle is_refused_by 6 ∷ []
+last_pair = registers 0x0401 0x0f00 ++ start gives 0 ∷ if_idle is_refused_by Busy ∷ []
 
 abbrev pub no_pair : List Step
-no_pair = registers 0x0401 0x1000 ++ start is_refused_by 9 ∷ if_idle gives 0 ∷ []
+no_pair = registers 0x0401 0x1000 ++ start is_refused_by BadChannels ∷ if_idle gives 0 ∷ []
 
 -- the table: the uniform modes are continuous, 0901H, and single, 0A01H
 abbrev pub cases : List Case

@@ -1,9 +1,9 @@
 -- The board's own step for each call. It keeps relative times; that they agree with document 01's schedule is sentence 3.
 -- Every definition is total on every Board value: slots and channels count by their remainder by 32.
-use Rattle.std.specs.Prelude.{ℕ, zero, suc, ◌+◌, ◌-◌, ◌%◌, min, Bool, true, false, cond, not, ◌&&◌, ◌||◌, List, [], ◌∷◌, eqb, leb, ℤ, pos, get_or, set, replicate}
-use Rattle.analog.specs.Answers.{Question, question, first_no, answered}
-use Rattle.analog.specs.declared.Answer.{Answer}
-use Rattle.pmc330_model.specs.Map.{Register, if_mailbox, class_of, trigger_field}
+use Rattle.std.specs.Prelude.{ℕ, zero, suc, ◌+◌, ◌-◌, ◌%◌, min, Bool, true, false, cond, not, ◌&&◌, ◌||◌, Option, Some, None, List, [], ◌∷◌, eqb, leb, ℤ, pos, get_or, set, replicate}
+use Rattle.analog.specs.Answers.{Question, question, first_no, answered, Answer}
+use Rattle.pmc330_model.specs.Map.{if_mailbox, class_of, trigger_field}
+use Rattle.pmc330_model.specs.declared.Register.{Register}
 use Rattle.pmc330_model.specs.Words.{View, read_word, look_value, read_bytes, with_word, gains_with, is_release, is_stop, is_start}
 use Rattle.pmc330_model.specs.Schedule.{pass_length, interval, is_differential, is_uniform, is_burst, is_single, is_timed, is_trigger_only, code_at, formatted_by, is_interrupting, burst_delay}
 use Rattle.pmc330_model.specs.Calls.{Call, read, write, input, advance, trigger, reset, look, clear}
@@ -13,6 +13,7 @@ use Rattle.pmc330_model.specs.declared.Cycle.{Cycle}
 use Rattle.pmc330_model.specs.declared.Board.{Board}
 use Rattle.pmc330_model.specs.declared.Reply.{Reply}
 use Rattle.pmc330_model.specs.declared.Look.{Look}
+use Rattle.analog.specs.declared.Refusal.TheVariants.{BadRange}
 
 -- no cycle runs
 abbrev pub idle_cycle : Cycle
@@ -173,6 +174,10 @@ first_store (suc n) passed b = cond (is_store_due b) (suc passed) (first_store n
 -- the ticks to the next store if only time passes; 0 if the longest advance makes none
 abbrev pub next_store : Board → ℕ
 next_store b = first_store 16_777_216 0 b
+
+-- ticks of which 0 says that there are none, as the code has them
+abbrev pub if_any : (ticks : ℕ) → Option ℕ
+if_any ticks = cond (eqb ticks 0) None (Some ticks)
 
 -- a cycle with no conversion begun
 abbrev pub fresh_cycle : Registers → Cycle
@@ -369,7 +374,7 @@ abbrev pub new_call : (range : ℕ) → Reply
 new_call range =
     record {
       board = new_board (cond (leb range 3) range 0);
-      answer = answered (question 14 (leb range 3) ∷ []) 0;
+      answer = answered (question BadRange (leb range 3) ∷ []) 0;
     }
 
 -- "The request line is enable and pending."

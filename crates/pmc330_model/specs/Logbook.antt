@@ -1,9 +1,9 @@
 -- Document 01, "The logbook": a definition, fed the new board's range and then the calls with their arguments in order,
 -- nothing else. Its numbers have no bound. It knows nothing of the board's own state.
 use Rattle.std.specs.Prelude.{ℕ, zero, suc, ◌+◌, ◌-◌, Bool, true, false, cond, ◌&&◌, ◌||◌, List, [], ◌∷◌, eqb, leb, ℤ, pos, set, replicate, length}
-use Rattle.analog.specs.Answers.{Question, first_no, answered}
-use Rattle.analog.specs.declared.Answer.{Answer}
-use Rattle.pmc330_model.specs.Map.{Register, if_mailbox, class_of, trigger_field}
+use Rattle.analog.specs.Answers.{Question, first_no, answered, Answer}
+use Rattle.pmc330_model.specs.Map.{if_mailbox, class_of, trigger_field}
+use Rattle.pmc330_model.specs.declared.Register.{Register}
 use Rattle.pmc330_model.specs.Words.{View, read_word, look_value, read_bytes, with_word, gains_with, is_release, is_stop, is_start}
 use Rattle.pmc330_model.specs.Schedule.{is_burst, is_single, is_timed, is_trigger_only, channel_of, slot_of, ends_pass, code_at, formatted_by, is_interrupting, begins_at, is_scheduled, Due, none, conversion, first_from}
 use Rattle.pmc330_model.specs.Calls.{Call, read, write, input, advance, trigger, reset, look, clear}

@@ -1,79 +1,76 @@
 -- Document 01, "Register map".
 use Rattle.std.specs.Prelude.{ℕ, ◌+◌, ◌-◌, ◌*◌, ◌/◌, ◌%◌, Bool, true, false, cond, List, [], ◌∷◌, eqb, ltb, get_or}
-
--- What a byte offset belongs to. New Data and Missed Data have two words, Gain four, and there are 32 mailboxes.
-pub data Register : Type 0 where
-  unmapped interrupt control prescaler timer channels start_convert : Register
-  new_data missed_data gain mailbox : ℕ → Register
+use Rattle.pmc330_model.specs.declared.Register.{Register}
+use Rattle.pmc330_model.specs.declared.Register.TheVariants.{Unmapped, Interrupt, Control, Prescaler, Timer, Channels, StartConvert, NewData, MissedData, Gain, Mailbox}
 
 -- the words from 00H to 24H
 abbrev pub low_words : List Register
 low_words =
-    interrupt
-    ∷ control
-    ∷ prescaler
-    ∷ timer
-    ∷ channels
-    ∷ new_data 0
-    ∷ new_data 1
-    ∷ missed_data 0
-    ∷ missed_data 1
-    ∷ start_convert
+    Interrupt
+    ∷ Control
+    ∷ Prescaler
+    ∷ Timer
+    ∷ Channels
+    ∷ NewData 0
+    ∷ NewData 1
+    ∷ MissedData 0
+    ∷ MissedData 1
+    ∷ StartConvert
     ∷ []
 
 -- the register of word n, at offset 4 × n: Gain from 40H, Mailbox from 80H to FCH
 unfoldable pub word_at : ℕ → Register
 word_at n =
-    cond (ltb n 0x10) (get_or low_words n unmapped)
-    (cond (ltb n 0x14) (gain (n - 0x10))
-    (cond (ltb n 0x20) unmapped
-    (cond (ltb n 0x40) (mailbox (n - 0x20)) unmapped)))
+    cond (ltb n 0x10) (get_or low_words n Unmapped)
+    (cond (ltb n 0x14) (Gain (n - 0x10))
+    (cond (ltb n 0x20) Unmapped
+    (cond (ltb n 0x40) (Mailbox (n - 0x20)) Unmapped)))
 
 -- "Each mapped word has two live bytes, at offset and offset + 1; the other two are unmapped."
 unfoldable pub class_of : (offset : ℕ) → Register
-class_of offset = cond (ltb (offset % 4) 2) (word_at (offset / 4)) unmapped
+class_of offset = cond (ltb (offset % 4) 2) (word_at (offset / 4)) Unmapped
 
 abbrev pub is_mapped : Register → Bool
-is_mapped unmapped = false
-is_mapped interrupt = true
-is_mapped control = true
-is_mapped prescaler = true
-is_mapped timer = true
-is_mapped channels = true
-is_mapped start_convert = true
-is_mapped (new_data half) = true
-is_mapped (missed_data half) = true
-is_mapped (gain group) = true
-is_mapped (mailbox slot) = true
+is_mapped Unmapped = false
+is_mapped Interrupt = true
+is_mapped Control = true
+is_mapped Prescaler = true
+is_mapped Timer = true
+is_mapped Channels = true
+is_mapped StartConvert = true
+is_mapped (NewData half) = true
+is_mapped (MissedData half) = true
+is_mapped (Gain group) = true
+is_mapped (Mailbox slot) = true
 
 -- New Data, Missed Data and the mailboxes are "read only". What is unmapped is refused by question 3, before this is asked
 abbrev pub is_writable : Register → Bool
-is_writable unmapped = true
-is_writable interrupt = true
-is_writable control = true
-is_writable prescaler = true
-is_writable timer = true
-is_writable channels = true
-is_writable start_convert = true
-is_writable (new_data half) = false
-is_writable (missed_data half) = false
-is_writable (gain group) = true
-is_writable (mailbox slot) = false
+is_writable Unmapped = true
+is_writable Interrupt = true
+is_writable Control = true
+is_writable Prescaler = true
+is_writable Timer = true
+is_writable Channels = true
+is_writable StartConvert = true
+is_writable (NewData half) = false
+is_writable (MissedData half) = false
+is_writable (Gain group) = true
+is_writable (Mailbox slot) = false
 
 -- what goes for each register that a read or a write treats in its own way, and what for the others
 abbrev pub by_register :
     {A : Type 0} → Register → (on_interrupt on_control on_prescaler on_timer on_channels on_start : A) → (on_gain on_mailbox : ℕ → A) → A → A
-by_register unmapped i c p t ch s g m otherwise = otherwise
-by_register interrupt i c p t ch s g m otherwise = i
-by_register control i c p t ch s g m otherwise = c
-by_register prescaler i c p t ch s g m otherwise = p
-by_register timer i c p t ch s g m otherwise = t
-by_register channels i c p t ch s g m otherwise = ch
-by_register start_convert i c p t ch s g m otherwise = s
-by_register (new_data half) i c p t ch s g m otherwise = otherwise
-by_register (missed_data half) i c p t ch s g m otherwise = otherwise
-by_register (gain group) i c p t ch s g m otherwise = g group
-by_register (mailbox slot) i c p t ch s g m otherwise = m slot
+by_register Unmapped i c p t ch s g m otherwise = otherwise
+by_register Interrupt i c p t ch s g m otherwise = i
+by_register Control i c p t ch s g m otherwise = c
+by_register Prescaler i c p t ch s g m otherwise = p
+by_register Timer i c p t ch s g m otherwise = t
+by_register Channels i c p t ch s g m otherwise = ch
+by_register StartConvert i c p t ch s g m otherwise = s
+by_register (NewData half) i c p t ch s g m otherwise = otherwise
+by_register (MissedData half) i c p t ch s g m otherwise = otherwise
+by_register (Gain group) i c p t ch s g m otherwise = g group
+by_register (Mailbox slot) i c p t ch s g m otherwise = m slot
 
 -- what goes for one register, and what otherwise
 abbrev pub if_interrupt : {A : Type 0} → Register → A → A → A

@@ -3,11 +3,13 @@
 use Rattle.std.specs.Prelude.{ℕ, ◌/◌, ◌%◌, ◌^◌, Bool, true, false, cond, not, ◌&&◌, ◌||◌, List, [], ◌∷◌, ◌++◌, eqb, ltb, leb, ℤ, pos, neg_ℤ}
 use Rattle.std.specs.Int.Signed.{le_z}
 use Rattle.analog.specs.Answers.{Question, question}
-use Rattle.pmc330_model.specs.Map.{Register, class_of, is_mapped, is_readable, is_writable, if_interrupt, if_control, if_channels, if_start_convert, trigger_field, acquisition_field, scan_field, is_timer_enabled, interrupt_field}
+use Rattle.pmc330_model.specs.Map.{class_of, is_mapped, is_readable, is_writable, if_interrupt, if_control, if_channels, if_start_convert, trigger_field, acquisition_field, scan_field, is_timer_enabled, interrupt_field}
+use Rattle.pmc330_model.specs.declared.Register.{Register}
 use Rattle.pmc330_model.specs.Words.{held_word, written_word, with_word, bit_of, is_start}
 use Rattle.pmc330_model.specs.Schedule.{interval, is_differential, is_uniform}
 use Rattle.pmc330_model.specs.Calls.{Call, read, write, input, advance, trigger, reset, look, clear}
 use Rattle.pmc330_model.specs.declared.Registers.{Registers}
+use Rattle.analog.specs.declared.Refusal.TheVariants.{NoScan, BadChannels, BadInterval, BadWidth, BadOffset, Unmapped, BadDirection, Busy, BadCode, BadValue, BadChannel, BadVoltage, BadSlot, BadTicks}
 
 -- 1. "Is the width 8, 16 or 32?"
 abbrev pub is_width : ℕ → Bool
@@ -55,36 +57,36 @@ has_interval r =
 -- "Start Convert with bit 0 set, after 1 to 6": 8, 9 and 10
 abbrev pub start_questions : Registers → List Question
 start_questions r =
-    question 8 (not (eqb (scan_field r.control) 0))
-    ∷ question 9 (has_channels r)
-    ∷ question 10 (has_interval r)
+    question NoScan (not (eqb (scan_field r.control) 0))
+    ∷ question BadChannels (has_channels r)
+    ∷ question BadInterval (has_interval r)
     ∷ []
 
 -- 1, 2 and 3: of every access, with the register that its offset belongs to
 abbrev pub access_questions : (width offset : ℕ) → Register → List Question
 access_questions width offset register =
-    question 1 (is_width width)
-    ∷ question 2 (is_aligned width offset)
-    ∷ question 3 (is_mapped register)
+    question BadWidth (is_width width)
+    ∷ question BadOffset (is_aligned width offset)
+    ∷ question Unmapped (is_mapped register)
     ∷ []
 
 -- a read: 4 is about written values, and 6 and 7 are met by every read
 abbrev pub read_questions : (width offset : ℕ) → Register → List Question
-read_questions width offset register = access_questions width offset register ++ (question 5 (is_readable register) ∷ [])
+read_questions width offset register = access_questions width offset register ++ (question BadDirection (is_readable register) ∷ [])
 
 -- 5 and on: of the word that a write results in, and the registers that would hold it
 abbrev pub word_questions : Registers → (idle : Bool) → Register → (word : ℕ) → (resulting : Registers) → List Question
 word_questions r idle register word resulting =
-    question 5 (is_writable register)
-    ∷ question 6 (is_allowed idle register word resulting)
-    ∷ question 7 (is_valid register resulting)
+    question BadDirection (is_writable register)
+    ∷ question Busy (is_allowed idle register word resulting)
+    ∷ question BadCode (is_valid register resulting)
     ∷ cond (is_start register word) (start_questions r) []
 
 abbrev pub write_questions :
     Registers → (idle : Bool) → (width offset value : ℕ) → Register → (word : ℕ) → (resulting : Registers) → List Question
 write_questions r idle width offset value register word resulting =
     access_questions width offset register
-    ++ (question 4 (ltb value (2 ^ width)) ∷ word_questions r idle register word resulting)
+    ++ (question BadValue (ltb value (2 ^ width)) ∷ word_questions r idle register word resulting)
 
 -- the word that a write results in, of the registers as they are
 abbrev pub resulting_word : Registers → (gains : List ℕ) → (width offset value : ℕ) → ℕ
@@ -95,11 +97,11 @@ abbrev pub is_input : (microvolts : ℤ) → Bool
 is_input microvolts = le_z (neg_ℤ (pos 35_000_000)) microvolts && le_z microvolts (pos 55_000_000)
 
 abbrev pub input_questions : (channel : ℕ) → (microvolts : ℤ) → List Question
-input_questions channel microvolts = question 11 (leb channel 31) ∷ question 12 (is_input microvolts) ∷ []
+input_questions channel microvolts = question BadChannel (leb channel 31) ∷ question BadVoltage (is_input microvolts) ∷ []
 
 -- 02, A2: "Checks: 22, a slot above 31, looked at first." A look and a clear are asked nothing else, also while a cycle runs
 abbrev pub slot_questions : (slot : ℕ) → List Question
-slot_questions slot = question 22 (leb slot 31) ∷ []
+slot_questions slot = question BadSlot (leb slot 31) ∷ []
 
 -- the questions of each call, in order; a trigger and a reset are asked none
 unfoldable pub call_questions : Registers → (gains : List ℕ) → (idle : Bool) → Call → List Question
@@ -108,7 +110,7 @@ call_questions r gains idle (write width offset value) =
     let word : ℕ = resulting_word r gains width offset value in
     write_questions r idle width offset value (class_of offset) word (with_word (class_of offset) word r)
 call_questions r gains idle (input channel microvolts) = input_questions channel microvolts
-call_questions r gains idle (advance ticks) = question 13 (leb ticks 16_777_216) ∷ []
+call_questions r gains idle (advance ticks) = question BadTicks (leb ticks 16_777_216) ∷ []
 call_questions r gains idle trigger = []
 call_questions r gains idle reset = []
 call_questions r gains idle (look slot) = slot_questions slot

@@ -1,10 +1,9 @@
 -- The sentences of the data sheet, but for request A7's, which are in Waiting.antt. Each `Every..` is proved in
 -- proofs/Theorems.antt, those of the next store in proofs/NextStores.antt, those of request A2 in proofs/Looks.antt.
-use Rattle.std.specs.Prelude.{ℕ, suc, ◌+◌, ◌-◌, ◌*◌, ◌/◌, ◌%◌, ◌≤◌, ◌<◌, Bool, true, false, cond, not, ◌&&◌, List, [], ◌∷◌, ◌≡◌, leb, length}
+use Rattle.std.specs.Prelude.{ℕ, suc, ◌+◌, ◌-◌, ◌*◌, ◌/◌, ◌%◌, ◌≤◌, ◌<◌, Bool, true, false, cond, not, ◌&&◌, List, [], ◌∷◌, ◌≡◌, leb, length, Ok, Err}
 use Rattle.analog.specs.Answers.{Question, all_met, value_of, is_accepted}
 use Rattle.analog.specs.Sentences.{AnsweredBy}
 use Rattle.analog.specs.Sums.{sum_of}
-use Rattle.analog.specs.declared.Answer.TheVariants.{Accepted, Refused}
 use Rattle.pmc330_model.specs.Map.{trigger_field}
 use Rattle.pmc330_model.specs.Words.{bit_of, read_bytes}
 use Rattle.pmc330_model.specs.Schedule.{is_timed, is_trigger_only, channel_of, slot_of, ends_pass, code_at, begins_at, is_scheduled, conversion}
@@ -14,6 +13,7 @@ use Rattle.pmc330_model.specs.Board.{board_call, new_call, new_board, read_call,
 use Rattle.pmc330_model.specs.Logbook.{Event, was_reset, cycle_start, release, was_read, store, store_at, idle, since, is_idle, Logbook, last_store, stores_since, interrupted, with_happened, due_after, tick_passes, ticks_pass, logged, logbook_of, logbook_answers}
 use Rattle.pmc330_model.specs.declared.Registers.{Registers}
 use Rattle.pmc330_model.specs.declared.Board.{Board}
+use Rattle.analog.specs.declared.Refusal.TheVariants.{BadRange}
 
 -- ---- Sentence 1
 
@@ -38,9 +38,9 @@ EveryList1 =
 
 -- a new board, where none is handed in: refused by 14 with a new board of range 0, else a new board of that range
 pub record NewBoard1 (range : ℕ) : Type 0 where
-  pub accepted : range ≤ 3 → (new_call range).answer ≡ Accepted 0
+  pub accepted : range ≤ 3 → (new_call range).answer ≡ Ok 0
   pub made : range ≤ 3 → (new_call range).board ≡ new_board range
-  pub refused : 3 < range → (new_call range).answer ≡ Refused 14
+  pub refused : 3 < range → (new_call range).answer ≡ Err BadRange
   pub board : 3 < range → (new_call range).board ≡ new_board 0
 
 abbrev pub EveryNew1 : Type 0
@@ -63,7 +63,7 @@ pub record ReadsBit (b : Board) (offset place : ℕ) (bit : Bool) : Type 0 where
 -- What a 16-bit read of the board gives is what the logbook's events say. The clauses are the buyer's:
 -- "Each mailbox holds the code of the last store made there since the last reset, 0 if none."
 pub record Sentence3 (b : Board) (l : Logbook) : Type 0 where
-  pub mailbox : (s : ℕ) → s < 32 → (read_call b 16 (0x80 + 4 * s)).answer ≡ Accepted (last_store s l.events)
+  pub mailbox : (s : ℕ) → s < 32 → (read_call b 16 (0x80 + 4 * s)).answer ≡ Ok (last_store s l.events)
   -- "A New Data bit is set exactly when at least one store in that mailbox, and a Missed Data bit exactly when at least two,
   -- followed the last read of that mailbox, cycle start or reset." A trigger that begins an armed cycle is no cycle start (02, A4)
   pub new_data : (s : ℕ) → s < 32 → ReadsBit b (0x14 + 4 * (s / 16)) (s % 16) (leb 1 (stores_since s l.events))
@@ -242,8 +242,8 @@ EveryAdvances = (ns : List ℕ) (b : Board) → is_accepted (advance_call b (sum
 
 -- an advance of fewer ticks makes no store, one of exactly that many makes one; 0: no advance makes any
 pub record NextStore (b : Board) (n : ℕ) : Type 0 where
-  pub fewer : (ticks : ℕ) → ticks < n → (advance_call b ticks).answer ≡ Accepted 0
-  pub exact : 0 < n → (advance_call b n).answer ≡ Accepted 1
+  pub fewer : (ticks : ℕ) → ticks < n → (advance_call b ticks).answer ≡ Ok 0
+  pub exact : 0 < n → (advance_call b n).answer ≡ Ok 1
   pub none : n ≡ 0 → (ticks : ℕ) → value_of (advance_call b ticks).answer ≡ 0
 
 abbrev pub EveryNextStore : Type 0
@@ -266,7 +266,7 @@ abbrev pub EveryLookShown : Type 0
 EveryLookShown =
     (range : ℕ) → range < 4 → (calls : List Call) (slot : ℕ) → slot < 32
     → (look_call (board_after range calls) slot).answer
-    ≡ Accepted (last_store slot (logbook_of range calls).events
+    ≡ Ok (last_store slot (logbook_of range calls).events
     + cond (leb 1 (stores_since slot (logbook_of range calls).events)) 65_536 0
     + cond (leb 2 (stores_since slot (logbook_of range calls).events)) 131_072 0)
 
@@ -284,7 +284,7 @@ pub record LookAndClear (b : Board) (width offset slot : ℕ) : Type 0 where
   pub looked : is_accepted (look_call b slot).answer ≡ true
   pub cleared : is_accepted (clear_call (look_call b slot).board slot).answer ≡ true
   pub board : (read_call b width offset).board ≡ (clear_call (look_call b slot).board slot).board
-  pub value : (read_call b width offset).answer ≡ Accepted (read_bytes width offset ((view_of b).code slot))
+  pub value : (read_call b width offset).answer ≡ Ok (read_bytes width offset ((view_of b).code slot))
 
 -- every accepted mailbox read: of any board, of any width, at either live byte
 abbrev pub EveryMailboxRead : Type 0

@@ -1,6 +1,8 @@
 -- Document 01, "Register map": what the words hold, and what a read or a write of any width covers of them.
 use Rattle.std.specs.Prelude.{ℕ, zero, suc, ◌+◌, ◌-◌, ◌*◌, ◌/◌, ◌%◌, ◌^◌, Bool, false, cond, ◌&&◌, List, eqb, ltb, leb, get_or, set}
-use Rattle.pmc330_model.specs.Map.{Register, unmapped, interrupt, control, prescaler, timer, channels, start_convert, new_data, missed_data, gain, mailbox, by_register, if_interrupt, if_control, if_start_convert, if_gain, kept_control, scan_field}
+use Rattle.pmc330_model.specs.Map.{by_register, if_interrupt, if_control, if_start_convert, if_gain, kept_control, scan_field}
+use Rattle.pmc330_model.specs.declared.Register.{Register}
+use Rattle.pmc330_model.specs.declared.Register.TheVariants.{Unmapped, Interrupt, Control, Prescaler, Timer, Channels, StartConvert, NewData, MissedData, Gain, Mailbox}
 use Rattle.pmc330_model.specs.declared.Registers.{Registers}
 
 -- count digits to a base, the first one lowest: a word of bits or of two-bit gains
@@ -25,38 +27,38 @@ pub record View : Type 0 where
 
 -- the word as the registers hold it, of which a narrow write keeps the other byte
 unfoldable pub held_word : Registers → (gains : List ℕ) → Register → ℕ
-held_word r gains unmapped = 0
+held_word r gains Unmapped = 0
 -- "bit 0 board enable"
-held_word r gains interrupt = to_bit r.enable
-held_word r gains control = r.control
+held_word r gains Interrupt = to_bit r.enable
+held_word r gains Control = r.control
 -- "low byte reads 0 and takes nothing; high byte (09H) Timer Prescaler"
-held_word r gains prescaler = r.prescaler * 0x100
-held_word r gains timer = r.timer
+held_word r gains Prescaler = r.prescaler * 0x100
+held_word r gains Timer = r.timer
 -- "low byte Start Channel, high byte End Channel"
-held_word r gains channels = r.start + r.end * 0x100
+held_word r gains Channels = r.start + r.end * 0x100
 -- Start Convert holds nothing: a byte write to 25H never sets bit 0
-held_word r gains start_convert = 0
-held_word r gains (new_data half) = 0
-held_word r gains (missed_data half) = 0
+held_word r gains StartConvert = 0
+held_word r gains (NewData half) = 0
+held_word r gains (MissedData half) = 0
 -- "eight channels a word, two bits each from bit 0, channel 0 first"
-held_word r gains (gain group) = joined 4 (λ i. get_or gains (8 * group + i) 0) 8
-held_word r gains (mailbox slot) = 0
+held_word r gains (Gain group) = joined 4 (λ i. get_or gains (8 * group + i) 0) 8
+held_word r gains (Mailbox slot) = 0
 
 -- the word that is read
 unfoldable pub read_word : View → Register → ℕ
-read_word v unmapped = 0
+read_word v Unmapped = 0
 -- "bit 1 pending, read only"; "bit 15 reads 0"; "Other bits read 0"
-read_word v interrupt = held_word v.registers v.gains interrupt + to_bit v.pending * 2
-read_word v control = held_word v.registers v.gains control
-read_word v prescaler = held_word v.registers v.gains prescaler
-read_word v timer = held_word v.registers v.gains timer
-read_word v channels = held_word v.registers v.gains channels
-read_word v start_convert = 0
+read_word v Interrupt = held_word v.registers v.gains Interrupt + to_bit v.pending * 2
+read_word v Control = held_word v.registers v.gains Control
+read_word v Prescaler = held_word v.registers v.gains Prescaler
+read_word v Timer = held_word v.registers v.gains Timer
+read_word v Channels = held_word v.registers v.gains Channels
+read_word v StartConvert = 0
 -- "New Data, slots 0-15 and 16-31", Missed Data "likewise"
-read_word v (new_data half) = joined 2 (λ i. to_bit (v.is_new (16 * half + i))) 16
-read_word v (missed_data half) = joined 2 (λ i. to_bit (v.is_missed (16 * half + i))) 16
-read_word v (gain group) = held_word v.registers v.gains (gain group)
-read_word v (mailbox slot) = v.code slot
+read_word v (NewData half) = joined 2 (λ i. to_bit (v.is_new (16 * half + i))) 16
+read_word v (MissedData half) = joined 2 (λ i. to_bit (v.is_missed (16 * half + i))) 16
+read_word v (Gain group) = held_word v.registers v.gains (Gain group)
+read_word v (Mailbox slot) = v.code slot
 
 -- 02, A2: "A look's value is the code, plus 65536 if New, plus 131072 if Missed."
 abbrev pub look_value : View → (slot : ℕ) → ℕ

@@ -3,8 +3,28 @@
 
 use analog::Answer;
 
+// What a byte offset belongs to, document 01's "Register map". New Data and Missed Data have two words, Gain four, and there
+// are 32 mailboxes.
+#[derive(Clone, Copy, Debug, PartialEq, Eq)]
+pub enum Register {
+    Unmapped,
+    Interrupt,
+    Control,
+    Prescaler,
+    Timer,
+    Channels,
+    StartConvert,
+    // which half of the slots: 0-15 or 16-31
+    NewData(u8),
+    MissedData(u8),
+    // which eight channels
+    Gain(u8),
+    // the slot
+    Mailbox(u8),
+}
+
 // The registers as written, but for the gains.
-#[derive(Clone, Copy)]
+#[derive(Clone, Copy, Debug, PartialEq, Eq)]
 pub struct Registers {
     pub enable: bool,
     pub control: u16,
@@ -15,7 +35,8 @@ pub struct Registers {
 }
 
 // Where a cycle stands. Times are relative and bounded: a list of calls has no bound, and so no tick count fits.
-#[derive(Clone, Copy)]
+// C holds these fields as words with any contents, so 0 stands for none here, and a slot stays beside `waiting`.
+#[derive(Clone, Copy, Debug, PartialEq, Eq)]
 pub struct Cycle {
     // not idle
     pub running: bool,

@@ -3,27 +3,41 @@
 // A read or a write that fails ends it with that error.
 #![tactic(auto)]
 
-ghost use Rattle.std.specs.Prelude.{◌≤◌, ◌≡◌, length, take};
+ghost use Rattle.std.specs.Prelude.{◌≡◌, take, OnOk, IfSome};
+ghost use Rattle.std.specs.Io.KnownBytes.{Appends};
+ghost use Rattle.lines.specs.Text.{text_of};
+ghost use Rattle.trace.specs.Replay.{replayed};
+ghost use Rattle.pmc330_replay.specs.Printed.{printed_of};
 
+use analog::Refusal;
+use lines::Line;
 use std::io;
-use std::io::Write;
+use std::io::{Read, Write};
 use trace::Replayed;
 
-// The line of a replay; how many bytes it has is returned.
-fn put_replayed(text: &mut [u8], replayed: Replayed) -> usize
-    ensures { (result ≤ length text.new) × (result ≡ length (take result text.new)) }
+fn line_of(replayed: Result<Replayed, Refusal>) -> Line
+    ensures { text_of result ≡ printed_of replayed }
 {
     match replayed {
-        Replayed::Refused(number) => lines::put_refused(text, number),
-        Replayed::Agree(count) => lines::put_agree(text, count),
-        Replayed::Differs(index, count) => lines::put_differs(text, index, count),
+        Ok(Replayed::Agree(count)) => Line::Agree { count },
+        Ok(Replayed::Differs { index, count }) => Line::Differs { index, count },
+        Err(refusal) => Line::Refused {
+            number: refusal.number(),
+        },
     }
 }
 
+// Where the bytes of the input are known, what is printed is the line of their replay.
+fn run<R: Read, W: Write>(input: &mut R, output: &mut W) -> io::Result<()>
+    ensures { IfSome (R.remaining input.old) (λ bytes. OnOk result
+        (Appends (W.contents output.old) (W.contents output.new) (printed_of (replayed (take 32768 bytes))))) }
+{
+    let mut bytes = [0u8; 32_768];
+    let n = reads::read_full(input, &mut bytes)?;
+    let line = line_of(trace::replay(&bytes[..n]));
+    write!(output, "{line}")
+}
+
 fn main(rt: HostRuntime) -> io::Result<()> {
-    let mut input = [0u8; 32768];
-    let n = reads::read_full(&mut rt.stdin(), &mut input)?;
-    let mut text = [0u8; 32];
-    let end = put_replayed(&mut text, trace::replay(&input[..n]));
-    rt.stdout().write_all(&text[..end])
+    run(&mut rt.stdin(), &mut rt.stdout())
 }

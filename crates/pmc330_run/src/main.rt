@@ -2,31 +2,56 @@
 // A read or a write that fails ends it with that error.
 #![tactic(auto)]
 
-use std::io;
-use std::io::Write;
+ghost use Rattle.std.specs.Prelude.{take, IfSome, OnOk};
+ghost use Rattle.std.specs.Io.KnownBytes.{Appends};
+ghost use Rattle.pmc330_run.specs.Printed.{outcome_text, printed_of};
 
-// Prints what the player returned: 256 times the calls that it answered, and a number that is not 0 where it refused the trace.
-fn print<W: Write>(to: &mut W, text: &mut [u8], answers: &[u8], played: u64) -> io::Result<()> {
-    let number = (played % 256) as u8;
-    if number != 0 {
-        let end = lines::put_refused(text, number);
-        return to.write_all(&text[..end]);
+use analog::Refusal;
+use arrayvec::ArrayString;
+use lines::{CallLines, Line};
+use std::fmt::Write as _;
+use std::io;
+use std::io::{Read, Write};
+
+const MOST_BYTES: usize = 32_768;
+
+// The heading has 8 bytes and each call at least 3.
+const MOST_CALLS: usize = (MOST_BYTES - 8) / 3;
+
+const ANSWER_BYTES: usize = 5 * MOST_CALLS;
+
+// A line has at most 32 bytes.
+const TEXT_BYTES: usize = 32 * MOST_CALLS;
+
+// The lines are written out at once: standard output has no buffer.
+fn print<W: Write>(output: &mut W, played: Result<u32, Refusal>, answers: &[u8]) -> io::Result<()>
+    ensures { OnOk result (Appends (W.contents output.old) (W.contents output.new) (outcome_text played answers.now)) }
+{
+    match played {
+        Ok(calls) => {
+            let mut text = ArrayString::<TEXT_BYTES>::new();
+            write!(text, "{}", CallLines { answers, calls })?;
+            output.write_all(text.as_bytes())
+        }
+        Err(refusal) => {
+            let number = refusal.number();
+            write!(output, "{}", Line::Refused { number })
+        }
     }
-    let calls = played / 256;
-    // Always so, see main; the test is for the conversion to 32 bits.
-    if calls <= 10920 {
-        let end = lines::put_lines(text, answers, calls as u32);
-        return to.write_all(&text[..end]);
-    }
-    Ok(())
+}
+
+// Where the bytes of the input are known, so is what is printed.
+fn run<R: Read, W: Write>(input: &mut R, output: &mut W) -> io::Result<()>
+    ensures { IfSome (R.remaining input.old) (λ bytes. OnOk result
+        (Appends (W.contents output.old) (W.contents output.new) (printed_of (take 32768 bytes)))) }
+{
+    let mut bytes = [0u8; MOST_BYTES];
+    let n = reads::read_full(input, &mut bytes)?;
+    let mut answers = [0u8; ANSWER_BYTES];
+    let played = trace::play(&bytes[..n], &mut answers);
+    print(output, played, &answers)
 }
 
 fn main(rt: HostRuntime) -> io::Result<()> {
-    let mut input = [0u8; 32768];
-    let n = reads::read_full(&mut rt.stdin(), &mut input)?;
-    // The heading has 8 bytes and each call at least 3, so there are at most 10,920 calls, of which each has 5 bytes here and 32 below.
-    let mut answers = [0u8; 54600];
-    let played = trace::play(&input[..n], &mut answers);
-    let mut text = [0u8; 349440];
-    print(&mut rt.stdout(), &mut text, &answers, played)
+    run(&mut rt.stdin(), &mut rt.stdout())
 }

@@ -4,17 +4,9 @@
 // A read or a write that fails ends it with that error.
 #![tactic(auto)]
 
-ghost use Rattle.std.specs.Prelude.{◌≤◌};
-
 use reads::read_full;
 use std::io;
 use std::io::{Read, Write};
-
-fn length_of(low: u8, high: u8) -> usize
-    ensures { result ≤ 65535 }
-{
-    low as usize + 256 * (high as usize)
-}
 
 // Reads a trace and a buffer of these lengths, plays the one into the other, and writes what came.
 fn play_one<R: Read, W: Write>(
@@ -25,21 +17,25 @@ fn play_one<R: Read, W: Write>(
 ) -> io::Result<()> {
     read_full(input, trace)?;
     read_full(input, answers)?;
-    let played = trace::play(trace, answers);
-    write!(output, "{played:016x}")?;
+    let result = match trace::play(trace, answers) {
+        Ok(calls) => 256 * u64::from(calls),
+        Err(refusal) => u64::from(refusal.number()),
+    };
+    write!(output, "{result:016x}")?;
     output.write_all(answers)
 }
 
 // Plays the next stored trace, or answers that there is none.
 fn play_next<R: Read, W: Write>(input: &mut R, output: &mut W) -> io::Result<bool> {
     let mut lengths = [0u8; 4];
-    if read_full(input, &mut lengths)? < 4 {
+    if read_full(input, &mut lengths)? < lengths.len() {
         return Ok(false);
     }
+    let [trace_low, trace_high, room_low, room_high] = lengths;
+    let length = usize::from(u16::from_le_bytes([trace_low, trace_high]));
+    let room = usize::from(u16::from_le_bytes([room_low, room_high]));
     let mut trace = [0u8; 65536];
     let mut answers = [0u8; 65536];
-    let length = length_of(lengths[0], lengths[1]);
-    let room = length_of(lengths[2], lengths[3]);
     play_one(input, output, &mut trace[..length], &mut answers[..room])?;
     Ok(true)
 }

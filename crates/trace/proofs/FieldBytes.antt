@@ -60,15 +60,15 @@ two_bytes low high = omega arith
 
 -- the bytes of the first field and those after it
 first_back : (bytes : List ℕ) → is_whole bytes ≡ true → field_bytes (first_field bytes) ++ after_field bytes ≡ bytes
-first_back [] field = absurd (omega (arith, (whole_parts [] field).0))
-first_back (a ∷ []) field = absurd (omega (arith, (whole_parts (a ∷ []) field).0))
-first_back (a ∷ b ∷ []) field = absurd (omega (arith, (whole_parts (a ∷ b ∷ []) field).0))
+first_back [] field = absurd (omega (arith, (whole_parts [] field).head))
+first_back (a ∷ []) field = absurd (omega (arith, (whole_parts (a ∷ []) field).head))
+first_back (a ∷ b ∷ []) field = absurd (omega (arith, (whole_parts (a ∷ b ∷ []) field).head))
 first_back (a ∷ b ∷ d ∷ rest) field =
     let bytes : List ℕ = a ∷ b ∷ d ∷ rest in
     let parts = whole_parts bytes field in
     let n = size_of bytes in
-    let size : length (body_of bytes) ≡ n = length-take-le n rest (omega (arith, parts.2)) in
-    let small : n < 8 = omega (arith, parts.1, length_small a) in
+    let size : length (body_of bytes) ≡ n = length-take-le n rest (omega (arith, parts.ends)) in
+    let small : n < 8 = omega (arith, parts.stated, length_small a) in
     let stated : n ≡ b + 256 * d = two_bytes b d in
     let low : length (body_of bytes) % 256 ≡ b = omega (arith, size, small, stated) in
     let high : length (body_of bytes) / 256 ≡ d = omega (arith, size, small, stated) in
@@ -79,8 +79,8 @@ first_back (a ∷ b ∷ d ∷ rest) field =
 first_sound : (bytes : List ℕ) → is_later_field bytes ≡ true → is_sound (first_field bytes) ≡ true
 first_sound bytes later =
     let parts = whole_parts bytes (and_left (is_whole bytes) _ later) in
-    let body : length (body_of bytes) ≡ size_of bytes = length-take-le (size_of bytes) (drop 3 bytes) (omega (arith, parts.2, length-drop 3 bytes)) in
-    ap₂ ◌&&◌ (and_right (is_whole bytes) _ later) (eq-eqb (length (body_of bytes)) (length_of (tag_of bytes)) (body ∙ parts.1))
+    let body : length (body_of bytes) ≡ size_of bytes = length-take-le (size_of bytes) (drop 3 bytes) (omega (arith, parts.ends, length-drop 3 bytes)) in
+    ap₂ ◌&&◌ (and_right (is_whole bytes) _ later) (eq-eqb (length (body_of bytes)) (length_of (tag_of bytes)) (body ∙ parts.stated))
 
 -- a field in front of others
 parsed_front : (bytes : List ℕ) (later : List Field) → is_later_field bytes ≡ true → Parsed (after_field bytes) later → Parsed bytes (first_field bytes ∷ later)
@@ -88,7 +88,7 @@ unfolding bytes_of_fields all_sound
 parsed_front bytes later e rest =
     let field = and_left (is_whole bytes) _ e in
     record {
-      few = omega (arith, rest.few, (whole_parts bytes field).2, length-drop (3 + size_of bytes) bytes);
+      few = omega (arith, rest.few, (whole_parts bytes field).ends, length-drop (3 + size_of bytes) bytes);
       sound = ap₂ ◌&&◌ (first_sound bytes e) rest.sound;
       back = ap (λ (l : List ℕ). field_bytes (first_field bytes) ++ l) rest.back ∙ first_back bytes field;
     }

@@ -1,42 +1,27 @@
--- The laws of fields: a trace's fields are its first field, then the fields after it.
-use mathlib.Core.Bool.{Bool, true, false, cond, not, ◌&&◌}
+-- The laws of fields: some bytes' fields are their first field, then the fields after it.
+use mathlib.Core.Bool.{Bool, true, false, cond, not, ◌&&◌, ◌||◌, false≢true}
 use mathlib.Core.List.{List, [], ◌∷◌}
 use mathlib.Core.Logic.{⊎_elim}
 use mathlib.Core.Path.{◌≡◌, refl, sym, ap, ap₂, ◌∙◌}
 use Prim.Native.Nat.{ℕ, zero, suc, ◌+◌, ◌-◌, ◌*◌, ◌≤◌, ◌<◌}
-use native.Mathlib.Nat.{add-zero}
 use native.Mathlib.Numerals.{add-one}
 use native.Mathlib.Omega.{arith}
 use lib.Dec.{eqb, ltb, leb}
-use lib.ListN.{length, get_or, take, drop, length-drop}
-use lib.Seq.{get_or-drop, drop-drop, drop-cons, length-take-le}
-use borrow.Author.Tests.{le-ltb, le-leb, lt-leb, eq-eqb, ne_eqb, eqb-true, ltb-true, leb-true}
+use lib.ListN.{length, get_or, drop, length-drop}
+use lib.Seq.{drop-cons, length-take-le}
+use borrow.Author.Tests.{le-leb, lt-leb, eq-eqb, ne_eqb, eqb-true, ltb-true, leb-true}
+use Rattle.std.specs.Prelude.{Ok, Err}
+use Rattle.analog.specs.declared.Refusal.TheVariants.{StrayAnswer}
 use Rattle.pmc330_model.specs.Words.{to_bit}
 use Rattle.pmc330_model.proofs.Cases.{lt_or_le, and_left, and_right, values_below, same_below}
-use Rattle.trace.specs.Grammar.{Kind, Row, is_call, is_answer, grammar, length_in, is_kind_in, length_of, is_call_tag, is_answer_tag, low_first}
-use Rattle.trace.specs.Fields.{Field, tag_of, size_of, body_of, first_field, after_field, is_whole, same_bytes, Fields, damaged, whole, in_front, is_later_tag, is_later_field, fields_in, fields_of, listed, call_fields, call_in, calls_among}
-use Rattle.trace.specs.Machine.{strays_in, strays_among, walked}
-use Rattle.trace.specs.declared.fields.Checked.TheVariants.{Refused, Calls}
+use Rattle.trace.specs.Grammar.{Kind, Row, is_answer, grammar, length_in, is_kind_in, length_of, is_call_tag, is_answer_tag, low_first, number_at}
+use Rattle.trace.specs.Fields.{Field, tag_of, size_of, body_of, first_field, after_field, is_whole, Fields, damaged, whole, in_front, is_later_tag, is_later_field, fields_in, fields_of, listed, call_fields, call_in, calls_among}
+use Rattle.trace.specs.Machine.{SplitsField, none_strays, walked}
+use Rattle.trace.specs.Stated.{byte_of}
+use Rattle.trace.specs.declared.fields.Tag.{Tag}
+use Rattle.trace.specs.declared.fields.Tag.TheVariants.{Read, Write, Input, Advance, Trigger, Reset, Look, Clear, Answer}
 
 -- ---- the grammar's table
-
-no_both : (t : Bool) → (t && false) ≡ false
-no_both true = refl
-no_both false = refl
-
--- what has no row, and a trigger and a reset, have no body
-pub length_none :
-    (tag : ℕ) → (tag ≡ 0 → ⊥) → (tag ≡ 1 → ⊥) → (tag ≡ 2 → ⊥) → (tag ≡ 3 → ⊥) → (tag ≡ 4 → ⊥) → (tag ≡ 7 → ⊥) → (tag ≡ 8 → ⊥) → (tag ≡ 9 → ⊥)
-    → length_of tag ≡ 0
-unfolding length_of length_in
-length_none tag n₀ n₁ n₂ n₃ n₄ n₇ n₈ n₉ =
-    rw (ne_eqb tag 0 n₀, ne_eqb tag 1 n₁, ne_eqb tag 2 n₂, ne_eqb tag 3 n₃, ne_eqb tag 4 n₄, ne_eqb tag 7 n₇, ne_eqb tag 8 n₈, ne_eqb tag 9 n₉)
-    (go (eqb tag 5) (eqb tag 6))
-  where
-    go : (trigger reset : Bool) → ◌≡◌ {A = ℕ} (cond trigger 0 (cond reset 0 0)) 0
-    go true reset = refl
-    go false true = refl
-    go false false = refl
 
 -- a number of every row, its tag or its size, is below a bound
 abbrev rows_below : (of : Row → ℕ) → ℕ → List Row → Bool
@@ -64,23 +49,13 @@ by_table :
 by_table test rule same far far' tag =
     ⊎_elim (λ (h : tag < 10). same_below test rule 10 same tag h) (λ (h : 10 ≤ tag). far tag h ∙ sym (far' tag h)) (lt_or_le tag 10)
 
-call_beyond : (tag : ℕ) → 10 ≤ tag → is_call_tag tag ≡ false
-unfolding is_call_tag
-call_beyond = no_row is_call 10 grammar refl
-
 answer_beyond : (tag : ℕ) → 10 ≤ tag → is_answer_tag tag ≡ false
 unfolding is_answer_tag
 answer_beyond = no_row is_answer 10 grammar refl
 
-pub answer_test : (tag : ℕ) → eqb tag 9 ≡ is_answer_tag tag
+answer_test : (tag : ℕ) → eqb tag 9 ≡ is_answer_tag tag
 unfolding is_answer_tag is_kind_in
 answer_test = by_table (λ tag. eqb tag 9) is_answer_tag refl (λ tag h. ne_eqb tag 9 (λ e. omega arith)) answer_beyond
-
-pub call_test : (tag : ℕ) → (tag ≡ 0 → ⊥) → ltb tag 9 ≡ is_call_tag tag
-unfolding is_call_tag is_kind_in
-call_test tag other =
-    sym (rw (ne_eqb tag 0 other))
-    ∙ by_table (λ t. not (eqb t 0) && ltb t 9) is_call_tag refl (λ t h. rw (le-ltb t 9 (omega arith)) (no_both (not (eqb t 0)))) call_beyond tag
 
 -- the heading's tag
 pub heading_no_call : is_call_tag 0 ≡ false
@@ -123,23 +98,74 @@ pub answer_length : (tag : ℕ) → is_later_tag tag ≡ true → is_call_tag ta
 unfolding length_of length_in
 answer_length tag later none = ap length_of (eqb-true tag 9 (answer_test tag ∙ answer_else tag later none))
 
+-- ---- the code's tags
+
+pub tag_later : (tag : Tag) → is_later_tag (byte_of tag) ≡ true
+unfolding is_call_tag is_answer_tag is_kind_in
+tag_later Read = refl
+tag_later Write = refl
+tag_later Input = refl
+tag_later Advance = refl
+tag_later Trigger = refl
+tag_later Reset = refl
+tag_later Look = refl
+tag_later Clear = refl
+tag_later Answer = refl
+
+pub answer_or_call : (tag : Tag) → is_answer_tag (byte_of tag) ≡ not (is_call_tag (byte_of tag))
+unfolding is_call_tag is_answer_tag is_kind_in
+answer_or_call Read = refl
+answer_or_call Write = refl
+answer_or_call Input = refl
+answer_or_call Advance = refl
+answer_or_call Trigger = refl
+answer_or_call Reset = refl
+answer_or_call Look = refl
+answer_or_call Clear = refl
+answer_or_call Answer = refl
+
+-- a byte that is no tag's may not stand after the heading
+pub no_tag :
+    (byte : ℕ) → (byte ≡ 1 → ⊥) → (byte ≡ 2 → ⊥) → (byte ≡ 3 → ⊥) → (byte ≡ 4 → ⊥) → (byte ≡ 5 → ⊥) → (byte ≡ 6 → ⊥) → (byte ≡ 7 → ⊥) → (byte ≡ 8 → ⊥) → (byte ≡ 9 → ⊥)
+    → is_later_tag byte ≡ false
+unfolding is_call_tag is_answer_tag is_kind_in
+no_tag byte n₁ n₂ n₃ n₄ n₅ n₆ n₇ n₈ n₉ =
+    rw (ne_eqb byte 1 n₁, ne_eqb byte 2 n₂, ne_eqb byte 3 n₃, ne_eqb byte 4 n₄, ne_eqb byte 5 n₅, ne_eqb byte 6 n₆, ne_eqb byte 7 n₇, ne_eqb byte 8 n₈, ne_eqb byte 9 n₉)
+    (go (eqb byte 0))
+  where
+    go : (heading : Bool) → (cond heading false false || cond heading false false) ≡ false
+    go true = refl
+    go false = refl
+
 -- ---- numbers
 
-pub number_law : (l : List ℕ) → length l ≤ 4 → low_first l ≡ get_or l 0 0 + 256 * get_or l 1 0 + 65_536 * (get_or l 2 0 + 256 * get_or l 3 0)
+number_step : (l : List ℕ) (at k : ℕ) → at < length l → number_at at (suc k) l ≡ get_or l at 0 + 256 * number_at (suc at) k l
 unfolding low_first
-number_law [] h = refl
-number_law (a ∷ []) h = omega arith
-number_law (a ∷ b ∷ []) h = omega arith
-number_law (a ∷ b ∷ d ∷ []) h = omega arith
-number_law (a ∷ b ∷ d ∷ e ∷ []) h = omega arith
-number_law (a ∷ b ∷ d ∷ e ∷ f ∷ l) h = absurd (omega arith)
+number_step l at k h = rw (drop-cons l at 0 h)
 
--- ---- bytes compared
+number_none : (l : List ℕ) (at : ℕ) → number_at at 0 l ≡ 0
+unfolding low_first
+number_none l at = refl
 
-module _ (a b : List ℕ) (i : ℕ) (in-a : i < length a) (in_b : i < length b) where
-  pub same_step : same_bytes (drop i a) (drop i b) ≡ (eqb (get_or a i 0) (get_or b i 0) && same_bytes (drop (i + 1) a) (drop (i + 1) b))
-  unfolding same_bytes
-  same_step = rw (drop-cons a i 0 in-a, drop-cons b i 0 in_b, add-one i)
+number_1 : (l : List ℕ) (at : ℕ) → at < length l → number_at at 1 l ≡ get_or l at 0
+number_1 l at h = omega (arith, number_step l at 0 h, number_none l (suc at))
+
+pub first_byte : (l : List ℕ) → get_or l 0 0 ≡ number_at 0 1 l
+unfolding low_first
+first_byte [] = refl
+first_byte (a ∷ l) = omega arith
+
+pub number_2 : (l : List ℕ) (at : ℕ) → at + 1 < length l → number_at at 2 l ≡ get_or l at 0 + 256 * get_or l (at + 1) 0
+number_2 l at h = rw (add-one at) (omega (arith, number_step l at 1 (omega arith), number_1 l (suc at) (omega arith)))
+
+pub number_4 :
+    (l : List ℕ) (at : ℕ) → at + 3 < length l
+    → number_at at 4 l ≡ get_or l at 0 + 256 * get_or l (at + 1) 0 + 65_536 * get_or l (at + 2) 0 + 16_777_216 * get_or l (at + 3) 0
+number_4 l at h =
+    let second : at + 2 ≡ suc (suc at) = omega arith in
+    let third : at + 3 ≡ suc (suc (suc at)) = omega arith in
+    rw (add-one at, second, third)
+    (omega (arith, number_step l at 3 (omega arith), number_step l (suc at) 2 (omega arith), number_step l (suc (suc at)) 1 (omega arith), number_1 l (suc (suc (suc at))) (omega arith)))
 
 -- ---- the fields of some bytes
 
@@ -178,116 +204,65 @@ fields_step bytes some =
     one_turn bytes some (length bytes)
     ∙ ap (step bytes) (enough (length bytes) (suc (length (after_field bytes))) (after_field bytes) (omega (arith, less)) (omega arith))
 
--- ---- the field at an index of the trace
+-- what the code's test of the end says
+pub some_left : (bytes : List ℕ) {t : Bool} → t ≡ eqb (length bytes) 0 → t ≡ false → 0 < length bytes
+some_left [] e f = absurd (false≢true (sym f ∙ e))
+some_left (b ∷ bytes) e f = omega arith
 
-shorter : (size left : ℕ) → 3 ≤ left → leb (3 + size) left ≡ leb size (left - 3)
-shorter size left long =
-    ⊎_elim
-    (λ (h : left < 3 + size). lt-leb (3 + size) left h ∙ sym (lt-leb size (left - 3) (omega arith)))
-    (λ (h : 3 + size ≤ left). le-leb (3 + size) left h ∙ sym (le-leb size (left - 3) (omega arith)))
-    (lt_or_le left (3 + size))
+pub none_left : (bytes : List ℕ) {t : Bool} → t ≡ eqb (length bytes) 0 → t ≡ true → length bytes ≡ 0
+none_left bytes e f = eqb-true (length bytes) 0 (sym e ∙ f)
 
-pub tag_at : (trace : List ℕ) (at : ℕ) → tag_of (drop at trace) ≡ get_or trace at 0
-tag_at trace at = get_or-drop at trace 0 0 ∙ ap (λ (n : ℕ). get_or trace n 0) (add-zero at)
+-- ---- a whole field
 
--- what a whole field has
-pub whole_parts : (bytes : List ℕ) → is_whole bytes ≡ true → (3 ≤ length bytes) × (size_of bytes ≡ length_of (tag_of bytes)) × (3 + size_of bytes ≤ length bytes)
+-- what it has
+pub record WholeField (bytes : List ℕ) : Type 0 where
+  pub head : 3 ≤ length bytes
+  pub stated : size_of bytes ≡ length_of (tag_of bytes)
+  pub ends : 3 + size_of bytes ≤ length bytes
+
+pub whole_parts : (bytes : List ℕ) → is_whole bytes ≡ true → WholeField bytes
 unfolding is_whole
 whole_parts bytes field =
-    let front = and_left (leb 3 (length bytes) && eqb (size_of bytes) (length_of (tag_of bytes))) (leb (3 + size_of bytes) (length bytes)) field in (
-      leb-true 3 (length bytes) (and_left (leb 3 (length bytes)) _ front),
-      eqb-true _ _ (and_right (leb 3 (length bytes)) _ front),
-      leb-true _ _ (and_right (leb 3 (length bytes) && eqb (size_of bytes) (length_of (tag_of bytes))) _ field),
-    )
-
--- the code's tests of a whole field
-module _ (trace : List ℕ) (at : ℕ) where
-  pub whole_short : length trace - at < 3 → is_whole (drop at trace) ≡ false
-  unfolding is_whole
-  whole_short h = rw (lt-leb 3 (length (drop at trace)) (omega (arith, length-drop at trace)))
-
-  -- the two bytes that state a length
-  pub size_at : low_first (take (at + 3 - (at + 1)) (drop (at + 1) trace)) ≡ size_of (drop at trace)
-  size_at =
-      let two : at + 3 - (at + 1) ≡ 2 = omega arith in
-      ap low_first (ap₂ take two (sym (drop-drop 1 at trace)))
-
-  module _ (size : ℕ) (long : 3 ≤ length trace - at) (e : size ≡ size_of (drop at trace)) where
-    pub whole_other : (size ≡ length_of (get_or trace at 0) → ⊥) → is_whole (drop at trace) ≡ false
-    unfolding is_whole
-    whole_other other =
-        rw (le-leb 3 (length (drop at trace)) (omega (arith, length-drop at trace)), sym e, tag_at trace at, ne_eqb size (length_of (get_or trace at 0)) other)
-
-    pub whole_met : size ≡ length_of (get_or trace at 0) → is_whole (drop at trace) ≡ leb size (length trace - at - 3)
-    unfolding is_whole
-    whole_met same =
-        rw (le-leb 3 (length (drop at trace)) (omega (arith, length-drop at trace)), sym e, tag_at trace at, eq-eqb size (length_of (get_or trace at 0)) same, length-drop at trace)
-        (shorter size (length trace - at) long)
-
-  pub whole_some : is_whole (drop at trace) ≡ true → 3 ≤ length trace - at
-  whole_some field = omega (arith, (whole_parts (drop at trace) field).0, length-drop at trace)
-
-  pub whole_size : is_whole (drop at trace) ≡ true → size_of (drop at trace) ≡ length_of (get_or trace at 0)
-  whole_size field = (whole_parts (drop at trace) field).1 ∙ ap length_of (tag_at trace at)
-
--- a whole field: its length is its tag's, and it ends in the trace
-pub record FieldAt (trace : List ℕ) (at size : ℕ) : Type 0 where
-  pub ends : at + 3 + size ≤ length trace
-  pub body : body_of (drop at trace) ≡ take size (drop (at + 3) trace)
-  pub after : after_field (drop at trace) ≡ drop (at + 3 + size) trace
-
-pub whole_at : (trace : List ℕ) (at size : ℕ) → size ≡ length_of (get_or trace at 0) → is_whole (drop at trace) ≡ true → FieldAt trace at size
-whole_at trace at size e field =
-    let bytes : List ℕ = drop at trace in
-    let same : size_of bytes ≡ size = whole_size trace at field ∙ sym e in
-    let long : 3 + size_of bytes ≤ length bytes = (whole_parts bytes field).2 in
-    let left = length-drop at trace in
-    let next : at + (3 + size_of bytes) ≡ at + 3 + size = omega (arith, same) in
+    let front = and_left (leb 3 (length bytes) && eqb (size_of bytes) (length_of (tag_of bytes))) (leb (3 + size_of bytes) (length bytes)) field in
     record {
-      ends = omega (arith, left, long, same);
-      body = ap₂ take same (drop-drop 3 at trace);
-      after = drop-drop (3 + size_of bytes) at trace ∙ ap (λ (n : ℕ). drop n trace) next;
+      head = leb-true 3 (length bytes) (and_left (leb 3 (length bytes)) _ front);
+      stated = eqb-true _ _ (and_right (leb 3 (length bytes)) _ front);
+      ends = leb-true _ _ (and_right (leb 3 (length bytes) && eqb (size_of bytes) (length_of (tag_of bytes))) _ field);
     }
 
+parts_whole : (bytes : List ℕ) → WholeField bytes → is_whole bytes ≡ true
+unfolding is_whole
+parts_whole bytes p = rw (le-leb 3 (length bytes) p.head, eq-eqb (size_of bytes) (length_of (tag_of bytes)) p.stated, le-leb (3 + size_of bytes) (length bytes) p.ends)
+
+pub no_later_field : (bytes : List ℕ) → (WholeField bytes → ⊥) → is_later_field bytes ≡ false
+no_later_field bytes none = go (is_whole bytes) refl
+  where
+    go : (t : Bool) → is_whole bytes ≡ t → (t && is_later_tag (tag_of bytes)) ≡ false
+    go true e = absurd (none (whole_parts bytes e))
+    go false e = refl
+
+pub parts_later : (bytes : List ℕ) → WholeField bytes → is_later_tag (tag_of bytes) ≡ true → is_later_field bytes ≡ true
+parts_later bytes p later = rw (parts_whole bytes p, later)
+
+-- a later field, by the length that it states
+pub later_is :
+    (bytes : List ℕ) (size : ℕ) → 3 ≤ length bytes → size ≡ size_of bytes → size ≡ length_of (tag_of bytes) → is_later_tag (tag_of bytes) ≡ true
+    → leb size (length bytes - 3) ≡ is_later_field bytes
+later_is bytes size long same stated later =
+    ⊎_elim
+    (λ (short : length bytes - 3 < size). lt-leb size (length bytes - 3) short ∙ sym (no_later_field bytes (λ w. omega (arith, w.ends, same, short))))
+    (λ (fits : size ≤ length bytes - 3).
+    le-leb size (length bytes - 3) fits
+    ∙ sym (parts_later bytes (record { head = long; stated = sym same ∙ stated; ends = omega (arith, same, fits, long) }) later))
+    (lt_or_le (length bytes - 3) size)
+
+-- the body of a whole field, by its tag
+pub body_length : (bytes : List ℕ) → is_later_field bytes ≡ true → length (body_of bytes) ≡ length_of (tag_of bytes)
+body_length bytes later =
+    let p = whole_parts bytes (and_left (is_whole bytes) _ later) in
+    length-take-le (size_of bytes) (drop 3 bytes) (omega (arith, p.ends, length-drop 3 bytes)) ∙ p.stated
+
 -- ---- the next field
-
--- the body of the field at an index, as the code hands it on
-abbrev pub body_at : (trace : List ℕ) (at size : ℕ) → List ℕ
-body_at trace at size = take (at + 3 + size - (at + 3)) (drop (at + 3) trace)
-
-pub body_at_lem : (trace : List ℕ) (at size : ℕ) → size ≡ length_of (get_or trace at 0) → is_whole (drop at trace) ≡ true → body_at trace at size ≡ body_of (drop at trace)
-body_at_lem trace at size e field =
-    let same : at + 3 + size - (at + 3) ≡ size = omega arith in
-    ap (λ (n : ℕ). take n (drop (at + 3) trace)) same ∙ sym (whole_at trace at size e field).body
-
-pub body_length : (trace : List ℕ) (at size : ℕ) → size ≡ length_of (get_or trace at 0) → is_whole (drop at trace) ≡ true → length (body_at trace at size) ≡ length_of (get_or trace at 0)
-body_length trace at size e field =
-    let same : at + 3 + size - (at + 3) ≡ size = omega arith in
-    length-take-le (at + 3 + size - (at + 3)) (drop (at + 3) trace) (omega (arith, length-drop (at + 3) trace, (whole_at trace at size e field).ends)) ∙ same ∙ e
-
--- the fields from an index on, where no later field or a whole one stands there
-pub no_field : (trace : List ℕ) (at : ℕ) → at < length trace → is_later_field (drop at trace) ≡ false → fields_of (drop at trace) ≡ damaged
-no_field trace at some e =
-    fields_step (drop at trace) (omega (arith, length-drop at trace))
-    ∙ rw e
-
-pub a_field :
-    (trace : List ℕ) (at size : ℕ) → at < length trace → size ≡ length_of (get_or trace at 0) → is_later_field (drop at trace) ≡ true
-    → fields_of (drop at trace) ≡ in_front (first_field (drop at trace)) (fields_of (drop (at + 3 + size) trace))
-a_field trace at size some e field =
-    let f = whole_at trace at size e (and_left (is_whole (drop at trace)) _ field) in
-    fields_step (drop at trace) (omega (arith, length-drop at trace))
-    ∙ rw field (ap (λ (l : List ℕ). in_front (first_field (drop at trace)) (fields_of l)) f.after)
-
--- what a walk over a checked trace meets
-pub record Next (trace : List ℕ) (at size : ℕ) (rest : List Field) : Type 0 where
-  pub later : List Field
-  pub same : rest ≡ first_field (drop at trace) ∷ later
-  pub following : fields_of (drop (at + 3 + size) trace) ≡ whole later
-  pub ends : at + 3 + size ≤ length trace
-  pub body : body_at trace at size ≡ body_of (drop at trace)
-  pub body_size : length (body_at trace at size) ≡ length_of (get_or trace at 0)
-  pub is_later : is_later_tag (get_or trace at 0) ≡ true
 
 pub record Front (field : Field) (rest : List Field) (fields : Fields) : Type 0 where
   pub later : List Field
@@ -298,35 +273,41 @@ pub front : (field : Field) (rest : List Field) (fields : Fields) → in_front f
 front field rest damaged e = let z : ◌≡◌ {A = ℕ} 0 1 = cc in absurd (omega arith)
 front field rest (whole fields) e = record { later = fields; same = sym (ap listed e); following = refl }
 
-is_field : (trace : List ℕ) (at : ℕ) (rest : List Field) → at < length trace → fields_of (drop at trace) ≡ whole rest → is_later_field (drop at trace) ≡ true
-is_field trace at rest some e = go (is_later_field (drop at trace)) refl
+-- the fields where no later field stands first, or one does
+pub no_field : (bytes : List ℕ) → 0 < length bytes → is_later_field bytes ≡ false → fields_of bytes ≡ damaged
+no_field bytes some e = fields_step bytes some ∙ rw e
+
+pub a_field : (bytes : List ℕ) → 0 < length bytes → is_later_field bytes ≡ true → fields_of bytes ≡ in_front (first_field bytes) (fields_of (after_field bytes))
+a_field bytes some e = fields_step bytes some ∙ rw e
+
+-- a field that a walk over a checked trace meets
+pub is_field : (bytes : List ℕ) (rest : List Field) → 0 < length bytes → fields_of bytes ≡ whole rest → is_later_field bytes ≡ true
+is_field bytes rest some e = go (is_later_field bytes) refl
   where
-    go : (t : Bool) → is_later_field (drop at trace) ≡ t → t ≡ true
+    go : (t : Bool) → is_later_field bytes ≡ t → t ≡ true
     go true found = refl
     go false found =
-        let f : damaged ≡ whole rest = sym (no_field trace at some found) ∙ e in
+        let f : damaged ≡ whole rest = sym (no_field bytes some found) ∙ e in
         let z : ◌≡◌ {A = ℕ} 0 1 = cc in
         absurd (omega arith)
 
--- a field that a walk meets is whole
-pub whole_here : (trace : List ℕ) (at : ℕ) (rest : List Field) → at < length trace → fields_of (drop at trace) ≡ whole rest → is_whole (drop at trace) ≡ true
-whole_here trace at rest some fields = and_left (is_whole (drop at trace)) _ (is_field trace at rest some fields)
+-- what the walk goes on with
+pub record Next (bytes after : List ℕ) (rest : List Field) : Type 0 where
+  pub later : List Field
+  pub same : rest ≡ first_field bytes ∷ later
+  pub following : fields_of after ≡ whole later
+  pub less : length after < length bytes
 
 pub next_field :
-    (trace : List ℕ) (at size : ℕ) (rest : List Field) → at < length trace → size ≡ length_of (get_or trace at 0)
-    → fields_of (drop at trace) ≡ whole rest → Next trace at size rest
-next_field trace at size rest some e fields =
-    let field = is_field trace at rest some fields in
-    let here = and_left (is_whole (drop at trace)) _ field in
-    let split = front (first_field (drop at trace)) rest (fields_of (drop (at + 3 + size) trace)) (sym (a_field trace at size some e field) ∙ fields) in
+    (bytes after : List ℕ) (rest : List Field) → 0 < length bytes → fields_of bytes ≡ whole rest → after ≡ after_field bytes → Next bytes after rest
+next_field bytes after rest some fields e =
+    let field = is_field bytes rest some fields in
+    let split = front (first_field bytes) rest (fields_of (after_field bytes)) (sym (a_field bytes some field) ∙ fields) in
     record {
       later = split.later;
       same = split.same;
-      following = split.following;
-      ends = (whole_at trace at size e here).ends;
-      body = body_at_lem trace at size e here;
-      body_size = body_length trace at size e here;
-      is_later = sym (ap is_later_tag (tag_at trace at)) ∙ and_right (is_whole (drop at trace)) _ field;
+      following = ap fields_of e ∙ split.following;
+      less = omega (arith, ap length e, length-drop (3 + size_of bytes) bytes);
     }
 
 -- the calls of a field and those after it
@@ -347,36 +328,46 @@ calls_counted field later = go (is_call_tag field.tag) refl
     go true e = ap length (call_front field later e) ∙ omega arith
     go false e = ap length (other_front field later e) ∙ omega arith
 
+-- a recorded answer strays, or one after it does
+strays_front : (strays answer after_call later : Bool) → (strays || not (cond answer after_call true && later)) ≡ ((strays || answer && not after_call) || not later)
+strays_front true answer after_call later = refl
+strays_front false true true later = refl
+strays_front false true false later = refl
+strays_front false false after_call later = refl
+
 walked_front :
-    (calls strays before : ℕ) (field : Field) (fields : Fields)
-    → walked calls strays before (in_front field fields)
-    ≡ walked (calls + to_bit (is_call_tag field.tag)) (strays + strays_in before field.tag) field.tag fields
-unfolding strays_among
-walked_front calls strays before field damaged = refl
-walked_front calls strays before field (whole fields) =
-    let found : strays + (strays_in before field.tag + strays_among field.tag fields) ≡ strays + strays_in before field.tag + strays_among field.tag fields = omega arith in
+    (calls : ℕ) (strays after_call : Bool) (field : Field) (fields : Fields)
+    → walked calls strays after_call (in_front field fields)
+    ≡ walked (calls + to_bit (is_call_tag field.tag)) (strays || is_answer_tag field.tag && not after_call) (is_call_tag field.tag) fields
+unfolding none_strays
+walked_front calls strays after_call field damaged = refl
+walked_front calls strays after_call field (whole fields) =
     let made : calls + length (calls_among (field ∷ fields)) ≡ calls + to_bit (is_call_tag field.tag) + length (calls_among fields) = omega (arith, calls_counted field fields) in
-    ap₂ (λ (n m : ℕ). cond (eqb n 0) (Calls m) (Refused 26)) found made
+    ap₂ (λ (t : Bool) (m : ℕ). cond t (Err StrayAnswer) (Ok m)) (strays_front strays (is_answer_tag field.tag) after_call (none_strays (is_call_tag field.tag) fields)) made
 
 pub walk_turn :
-    (trace : List ℕ) (at size calls strays before : ℕ) → at < length trace → size ≡ length_of (get_or trace at 0) → is_later_field (drop at trace) ≡ true
-    → walked calls strays before (fields_of (drop at trace))
-    ≡ walked (calls + to_bit (is_call_tag (get_or trace at 0))) (strays + strays_in before (get_or trace at 0)) (get_or trace at 0) (fields_of (drop (at + 3 + size) trace))
-walk_turn trace at size calls strays before some e field =
-    ap (walked calls strays before) (a_field trace at size some e field)
-    ∙ walked_front calls strays before (first_field (drop at trace)) (fields_of (drop (at + 3 + size) trace))
-    ∙ ap (λ (tag : ℕ). walked (calls + to_bit (is_call_tag tag)) (strays + strays_in before tag) tag (fields_of (drop (at + 3 + size) trace))) (tag_at trace at)
+    (calls : ℕ) (strays after_call : Bool) (bytes : List ℕ) (tag : ℕ) (body after : List ℕ) → 0 < length bytes → SplitsField bytes tag body after
+    → walked calls strays after_call (fields_of bytes)
+    ≡ walked (calls + to_bit (is_call_tag tag)) (strays || is_answer_tag tag && not after_call) (is_call_tag tag) (fields_of after)
+walk_turn calls strays after_call bytes tag body after some s =
+    ap (walked calls strays after_call) (a_field bytes some s.later)
+    ∙ walked_front calls strays after_call (first_field bytes) (fields_of (after_field bytes))
+    ∙ sym (ap₂ (λ (tag : ℕ) (after : List ℕ). walked (calls + to_bit (is_call_tag tag)) (strays || is_answer_tag tag && not after_call) (is_call_tag tag) (fields_of after)) s.tag_same s.after_same)
 
-pub walk_end : (bytes : List ℕ) (calls strays before : ℕ) → length bytes ≡ 0 → walked calls strays before (fields_of bytes) ≡ cond (eqb strays 0) (Calls calls) (Refused 26)
-unfolding strays_among call_fields
-walk_end bytes calls strays before none =
-    let all : strays + 0 ≡ strays = omega arith in
+pub walk_end : (bytes : List ℕ) (calls : ℕ) (strays after_call : Bool) → length bytes ≡ 0 → walked calls strays after_call (fields_of bytes) ≡ cond strays (Err StrayAnswer) (Ok calls)
+unfolding none_strays call_fields
+walk_end bytes calls strays after_call none =
+    let all : (strays || false) ≡ strays = go strays in
     let same : calls + 0 ≡ calls = omega arith in
-    ap (walked calls strays before) (fields_end bytes none) ∙ ap₂ (λ (n m : ℕ). cond (eqb n 0) (Calls m) (Refused 26)) all same
+    ap (walked calls strays after_call) (fields_end bytes none) ∙ ap₂ (λ (t : Bool) (m : ℕ). cond t (Err StrayAnswer) (Ok m)) all same
+  where
+    go : (t : Bool) → (t || false) ≡ t
+    go true = refl
+    go false = refl
 
 -- ---- how many calls there can be
 
-bit_small : (t : Bool) → to_bit t ≤ 1
+pub bit_small : (t : Bool) → to_bit t ≤ 1
 bit_small true = omega arith
 bit_small false = omega arith
 
@@ -388,4 +379,6 @@ calls_few (field ∷ fields) = omega (arith, calls_counted field fields, calls_f
 -- the heading has eight bytes
 pub heading_long : (trace : List ℕ) → is_whole trace ≡ true → tag_of trace ≡ 0 → 8 ≤ length trace
 unfolding length_of length_in
-heading_long trace field tag = omega (arith, (whole_at trace 0 5 (sym (ap length_of tag)) field).ends)
+heading_long trace field tag =
+    let p = whole_parts trace field in
+    omega (arith, p.ends, p.stated ∙ ap length_of tag)

@@ -83,10 +83,10 @@ module _ (trace rest : List ℕ) (e : is_heading trace ≡ true) where
   other_whole field =
       let size : size_of other ≡ size_of trace = ap low_first (part_same 1 2 (omega arith)) in
       let tag : tag_of other ≡ tag_of trace = byte_same 0 (omega arith) in
-      let five : size_of trace ≡ 5 = (whole_parts trace field).1 ∙ ap length_of (heading_parts trace e).tag in
+      let five : size_of trace ≡ 5 = (whole_parts trace field).stated ∙ ap length_of (heading_parts trace e).tag in
       let enough : length other ≡ 8 + length rest = length-append head rest ∙ ap (λ (n : ℕ). n + length rest) head_length in
       ap₂ ◌&&◌
-      (ap₂ ◌&&◌ (le-leb 3 (length other) (omega (arith, enough))) (eq-eqb (size_of other) (length_of (tag_of other)) (size ∙ (whole_parts trace field).1 ∙ sym (ap length_of tag))))
+      (ap₂ ◌&&◌ (le-leb 3 (length other) (omega (arith, enough))) (eq-eqb (size_of other) (length_of (tag_of other)) (size ∙ (whole_parts trace field).stated ∙ sym (ap length_of tag))))
       (le-leb (3 + size_of other) (length other) (omega (arith, enough, size, five)))
 
   pub other_range : range_of other ≡ range_of trace

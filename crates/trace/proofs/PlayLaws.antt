@@ -5,20 +5,24 @@ use mathlib.Core.Path.{◌≡◌, refl, sym, ap, ap₂, subst, ◌∙◌}
 use Prim.Native.Nat.{ℕ, ◌+◌, ◌-◌, ◌*◌, ◌≤◌, ◌<◌}
 use native.Mathlib.Omega.{arith}
 use lib.Dec.{eqb, leb}
-use lib.ListN.{length, get_or, take, drop, length-append, length-drop, drop_of_length-le, take-append-drop}
+use lib.ListN.{length, take, drop, length-append, length-drop, drop_of_length-le, take-append-drop}
 use lib.Seq.{take_all, take_at, drop_at, length-take-le, drop-drop}
 use borrow.Author.Tests.{le-leb, lt-leb, ne_eqb}
-use Rattle.analog.specs.Answers.{first_no}
-use Rattle.analog.specs.declared.Answer.{Answer}
+use Rattle.std.specs.Prelude.{Result, Ok, Err, ⊤}
+use Rattle.analog.specs.Answers.{Answer, first_no, asked}
+use Rattle.analog.specs.declared.Refusal.{Refusal}
+use Rattle.analog.specs.declared.Refusal.TheVariants.{BadHeading, BadField, ShortBuffer, StrayAnswer}
+use Rattle.analog.proofs.AnswerLaws.{number_some, none_asked, ok_first, err_first, answered_ok, answered_err}
 use Rattle.pmc330_model.specs.Calls.{Call}
-use Rattle.pmc330_model.specs.Board.{board_call, new_board, new_call, answers_from, answers_of}
+use Rattle.pmc330_model.specs.Board.{board_call, new_board, answers_from, answers_of}
+use Rattle.pmc330_model.specs.Lent.{open_call}
 use Rattle.pmc330_model.specs.declared.Board.{Board}
 use Rattle.pmc330_model.specs.declared.Reply.{Reply}
-use Rattle.trace.specs.Grammar.{length_of, is_call_tag}
-use Rattle.trace.specs.Fields.{Field, tag_of, first_field, is_heading, range_of, whole, fields_of, later_fields, is_undamaged, listed, fields_after, call_fields, call_in, calls_among, calls_of}
-use Rattle.trace.specs.Play.{answers_follow, field_questions, trace_number, answer_bytes, bytes_of, in_buffer, calls_answered, played_result, played_buffer}
+use Rattle.trace.specs.Grammar.{is_call_tag}
+use Rattle.trace.specs.Fields.{Field, tag_of, first_field, after_field, is_heading, range_of, whole, fields_of, later_fields, is_undamaged, listed, fields_after, call_fields, call_in, calls_among, calls_of}
+use Rattle.trace.specs.Play.{answers_follow, field_questions, trace_questions, played, trace_number, answer_bytes, bytes_of, in_buffer, played_buffer}
 use Rattle.trace.specs.Machine.{Walkable}
-use Rattle.trace.proofs.FieldLaws.{tag_at, Next, next_field, call_front, other_front, fields_end}
+use Rattle.trace.proofs.FieldLaws.{Next, next_field, call_front, other_front, fields_end}
 use Rattle.trace.proofs.CheckLaws.{heading_parts}
 
 -- ---- the answers in a buffer
@@ -37,39 +41,38 @@ module _ (xs five : List ℕ) (done : ℕ) (size : length five ≡ 5) (room : do
   abbrev head : List ℕ
   head = take done xs ++ five
 
-  abbrev after : List ℕ
-  after = head ++ drop 5 (drop done xs)
+  abbrev written_at : List ℕ
+  written_at = head ++ drop 5 (drop done xs)
 
   head_length : length head ≡ done + 5
   head_length = length-append (take done xs) five ∙ ap₂ ◌+◌ (length-take-le done xs (omega arith)) size
 
-  after_length : length after ≡ length xs
+  after_length : length written_at ≡ length xs
   after_length =
       omega (arith, length-append head (drop 5 (drop done xs)), head_length, length-drop 5 (drop done xs), length-drop done xs)
 
-  after_take : take (done + 5) after ≡ head
+  after_take : take (done + 5) written_at ≡ head
   after_take = take_at head (drop 5 (drop done xs)) (done + 5) head_length
 
-  after_drop : drop (done + 5) after ≡ drop 5 (drop done xs)
+  after_drop : drop (done + 5) written_at ≡ drop 5 (drop done xs)
   after_drop = drop_at head (drop 5 (drop done xs)) (done + 5) head_length
 
 -- ---- a turn of the player
 
--- where the player stands: what is written, with what the calls that are left will write, is what the whole trace writes
-pub record Playing (trace buffer : List ℕ) (start : Board) (answers : List ℕ) (board : Board) (at done : ℕ) : Type 0 where
-  pub within : at ≤ length trace
+-- where the player stands, with some bytes of the trace left: what is written, with what the calls in these will write, is what
+-- the whole trace writes
+pub record Playing (trace buffer : List ℕ) (start : Board) (answers : List ℕ) (board : Board) (bytes : List ℕ) (done : ℕ) : Type 0 where
   pub rest : List Field
-  pub fields : fields_of (drop at trace) ≡ whole rest
+  pub fields : fields_of bytes ≡ whole rest
   pub room : done + 5 * length (calls_among rest) ≤ length answers
   pub same : length answers ≡ length buffer
   pub written : take done answers ++ in_buffer (answers_from board (calls_among rest)) (drop done answers) ≡ in_buffer (answers_from start (calls_of trace)) buffer
 
 pub opening :
     (trace buffer : List ℕ) (start : Board) → Walkable trace → 5 * length (calls_of trace) ≤ length buffer
-    → Playing trace buffer start buffer start 8 0
+    → Playing trace buffer start buffer start (drop 8 trace) 0
 opening trace buffer start w fits =
     record {
-      within = w.long;
       rest = fields_after trace;
       fields = w.undamaged;
       room = omega (arith, fits);
@@ -82,29 +85,28 @@ abbrev pub rest_from : (answers : List ℕ) (done : ℕ) → List ℕ
 rest_from answers done = take (length answers - done) (drop done answers)
 
 -- one turn of the loop at a call, by what its calls give
-pub record Turn (trace buffer : List ℕ) (start : Board) (answers : List ℕ) (board : Board) (at done size : ℕ) : Type 0 where
+pub record Turn (trace buffer : List ℕ) (start : Board) (answers : List ℕ) (board : Board) (bytes after : List ℕ) (done : ℕ) : Type 0 where
   pub room : done + 5 ≤ length answers
   pub left : 5 ≤ length (rest_from answers done)
   pub next :
-      (reply : Reply) (ys : List ℕ) → reply ≡ board_call board (call_in (first_field (drop at trace)))
+      (reply : Reply) (ys : List ℕ) → reply ≡ board_call board (call_in (first_field bytes))
       → ys ≡ answer_bytes reply.answer ++ drop 5 (rest_from answers done)
-      → Playing trace buffer start (take done answers ++ (ys ++ drop (length answers - done) (drop done answers))) reply.board (at + 3 + size) (done + 5)
+      → Playing trace buffer start (take done answers ++ (ys ++ drop (length answers - done) (drop done answers))) reply.board after (done + 5)
 
 module _
-    (trace buffer : List ℕ) (start : Board) (answers : List ℕ) (board : Board) (at done : ℕ)
-    (p : Playing trace buffer start answers board at done) (some : at < length trace)
-    (size : ℕ) (e : size ≡ length_of (get_or trace at 0))
+    (trace buffer : List ℕ) (start : Board) (answers : List ℕ) (board : Board) (bytes : List ℕ) (done : ℕ)
+    (p : Playing trace buffer start answers board bytes done) (some : 0 < length bytes)
+    (after : List ℕ) (e : after ≡ after_field bytes)
   where
-    pub field_met : Next trace at size p.rest
-    field_met = next_field trace at size p.rest some e p.fields
+    pub field_met : Next bytes after p.rest
+    field_met = next_field bytes after p.rest some p.fields e
 
     -- a recorded answer is passed over
-    pub passes : is_call_tag (get_or trace at 0) ≡ false → Playing trace buffer start answers board (at + 3 + size) done
+    pub passes : is_call_tag (tag_of bytes) ≡ false → Playing trace buffer start answers board after done
     passes other =
         let n = field_met in
-        let calls : calls_among p.rest ≡ calls_among n.later = ap calls_among n.same ∙ other_front (first_field (drop at trace)) n.later (ap is_call_tag (tag_at trace at) ∙ other) in
+        let calls : calls_among p.rest ≡ calls_among n.later = ap calls_among n.same ∙ other_front (first_field bytes) n.later other in
         record {
-          within = n.ends;
           rest = n.later;
           fields = n.following;
           room = omega (arith, p.room, ap length calls);
@@ -112,12 +114,12 @@ module _
           written = ap (λ (made : List Call). take done answers ++ in_buffer (answers_from board made) (drop done answers)) (sym calls) ∙ p.written;
         }
 
-    module _ (made : is_call_tag (get_or trace at 0) ≡ true) where
+    module _ (made : is_call_tag (tag_of bytes) ≡ true) where
       abbrev later : List Call
       later = calls_among field_met.later
 
-      calls : calls_among p.rest ≡ call_in (first_field (drop at trace)) ∷ later
-      calls = ap calls_among field_met.same ∙ call_front (first_field (drop at trace)) field_met.later (ap is_call_tag (tag_at trace at) ∙ made)
+      calls : calls_among p.rest ≡ call_in (first_field bytes) ∷ later
+      calls = ap calls_among field_met.same ∙ call_front (first_field bytes) field_met.later made
 
       turn_room : done + 5 ≤ length answers
       turn_room = omega (arith, p.room, ap length calls)
@@ -129,13 +131,12 @@ module _
       tail_room = rw (tail_is) (omega (arith, length-drop done answers, turn_room))
 
       goes_on :
-          (reply : Reply) (ys : List ℕ) → reply ≡ board_call board (call_in (first_field (drop at trace))) → ys ≡ answer_bytes reply.answer ++ drop 5 (rest_from answers done)
-          → Playing trace buffer start (take done answers ++ (ys ++ drop (length answers - done) (drop done answers))) reply.board (at + 3 + size) (done + 5)
+          (reply : Reply) (ys : List ℕ) → reply ≡ board_call board (call_in (first_field bytes)) → ys ≡ answer_bytes reply.answer ++ drop 5 (rest_from answers done)
+          → Playing trace buffer start (take done answers ++ (ys ++ drop (length answers - done) (drop done answers))) reply.board after (done + 5)
       unfolding answers_from
       goes_on reply ys r y =
-          subst (λ (l : List ℕ). Playing trace buffer start l reply.board (at + 3 + size) (done + 5)) (sym back)
+          subst (λ (l : List ℕ). Playing trace buffer start l reply.board after (done + 5)) (sym back)
           (record {
-            within = field_met.ends;
             rest = field_met.later;
             fields = field_met.following;
             room = omega (arith, p.room, ap length calls, after_length answers five done refl turn_room);
@@ -154,33 +155,37 @@ module _
           five : List ℕ
           five = answer_bytes reply.answer
 
-          back : take done answers ++ (ys ++ drop (length answers - done) (drop done answers)) ≡ after answers five done refl turn_room
+          back : take done answers ++ (ys ++ drop (length answers - done) (drop done answers)) ≡ written_at answers five done refl turn_room
           back =
               ap₂ (λ (l m : List ℕ). take done answers ++ (l ++ m)) (y ∙ ap (λ (l : List ℕ). five ++ drop 5 l) tail_is)
               (drop_of_length-le (drop done answers) {i = length answers - done} (omega (arith, length-drop done answers)))
               ∙ ap (λ (l : List ℕ). take done answers ++ l) (append-nil (five ++ drop 5 (drop done answers)))
               ∙ sym (append_assoc (take done answers) five (drop 5 (drop done answers)))
 
-      pub turn : Turn trace buffer start answers board at done size
+      pub turn : Turn trace buffer start answers board bytes after done
       turn = record { room = turn_room; left = tail_room; next = goes_on }
 
 -- at the end
 pub over :
-    (trace buffer : List ℕ) (start : Board) (answers : List ℕ) (board : Board) (at done : ℕ)
-    → Playing trace buffer start answers board at done → length trace ≤ at
+    (trace buffer : List ℕ) (start : Board) (answers : List ℕ) (board : Board) (bytes : List ℕ) (done : ℕ)
+    → Playing trace buffer start answers board bytes done → length bytes ≡ 0
     → answers ≡ in_buffer (answers_from start (calls_of trace)) buffer
 unfolding answers_from in_buffer bytes_of call_fields
-over trace buffer start answers board at done p end =
+over trace buffer start answers board bytes done p end =
     sym (take-append-drop done answers)
     ∙ ap (λ (fields : List Field). take done answers ++ in_buffer (answers_from board (calls_among fields)) (drop done answers)) none
     ∙ p.written
   where
     none : [] ≡ p.rest
-    none = ap listed (sym (fields_end (drop at trace) (omega (arith, length-drop at trace))) ∙ p.fields)
+    none = ap listed (sym (fields_end bytes end) ∙ p.fields)
 
 -- ---- the number of a trace
 
 -- question 20 is asked after the others
+abbrev and_room : Result ⊤ Refusal → (room : Bool) → Result ⊤ Refusal
+and_room (Ok all) room = cond room (Ok record {}) (Err ShortBuffer)
+and_room (Err refusal) room = Err refusal
+
 asked_last :
     (a b d room : Bool)
     → ◌≡◌ {A = ℕ} (cond a (cond b (cond d (cond room 0 20) 26) 19) 18)
@@ -199,45 +204,66 @@ module _ (trace : List ℕ) (room : ℕ) where
       asked_last (leb (length trace) 16_777_216 && is_heading trace) (is_undamaged (later_fields trace)) (answers_follow (tag_of trace) (fields_after trace))
       (leb (5 * length (calls_of trace)) room)
 
-  pub number_refused : (n : ℕ) → first_no (field_questions trace) ≡ n → (n ≡ 0 → ⊥) → trace_number trace room ≡ n
-  number_refused n e some = number_is ∙ rw (e, ne_eqb n 0 some)
+-- so it is asked: the first no of the others, or its own
+room_asked :
+    (a b d room : Bool)
+    → ◌≡◌ {A = Result ⊤ Refusal} (cond a (cond b (cond d (cond room (Ok record {}) (Err ShortBuffer)) (Err StrayAnswer)) (Err BadField)) (Err BadHeading))
+    (and_room (cond a (cond b (cond d (Ok record {}) (Err StrayAnswer)) (Err BadField)) (Err BadHeading)) room)
+room_asked true true true room = refl
+room_asked true true false room = refl
+room_asked true false d room = refl
+room_asked false b d room = refl
+
+module _ (trace : List ℕ) (room : ℕ) where
+  asked_is : asked (trace_questions trace room) ≡ and_room (asked (field_questions trace)) (leb (5 * length (calls_of trace)) room)
+  unfolding asked
+  asked_is =
+      room_asked (leb (length trace) 16_777_216 && is_heading trace) (is_undamaged (later_fields trace)) (answers_follow (tag_of trace) (fields_after trace))
+      (leb (5 * length (calls_of trace)) room)
+
+  pub asked_refused : (refusal : Refusal) → asked (field_questions trace) ≡ Err refusal → asked (trace_questions trace room) ≡ Err refusal
+  asked_refused refusal e = asked_is ∙ ap (λ (r : Result ⊤ Refusal). and_room r (leb (5 * length (calls_of trace)) room)) e
 
   module _ (none : first_no (field_questions trace) ≡ 0) where
-    pub number_20 : room < 5 * length (calls_of trace) → trace_number trace room ≡ 20
-    number_20 less = number_is ∙ rw (none, lt-leb (5 * length (calls_of trace)) room less)
+    asked_room : asked (trace_questions trace room) ≡ and_room (Ok record {}) (leb (5 * length (calls_of trace)) room)
+    asked_room = asked_is ∙ ap (λ (r : Result ⊤ Refusal). and_room r (leb (5 * length (calls_of trace)) room)) (none_asked (field_questions trace) none)
 
-    pub number_0 : 5 * length (calls_of trace) ≤ room → trace_number trace room ≡ 0
-    number_0 enough = number_is ∙ rw (none, le-leb (5 * length (calls_of trace)) room enough)
+    pub asked_20 : room < 5 * length (calls_of trace) → asked (trace_questions trace room) ≡ Err ShortBuffer
+    asked_20 less = asked_room ∙ ap (and_room (Ok record {})) (lt-leb (5 * length (calls_of trace)) room less)
+
+    pub asked_all : 5 * length (calls_of trace) ≤ room → asked (trace_questions trace room) ≡ Ok record {}
+    asked_all enough = asked_room ∙ ap (and_room (Ok record {})) (le-leb (5 * length (calls_of trace)) room enough)
 
 -- ---- what the player gives back
 
--- the result and the buffer of a play
-pub record Played (trace buffer : List ℕ) (result : ℕ) (answers : List ℕ) : Type 0 where
-  pub number : result ≡ played_result trace (length buffer)
+-- the answer and the buffer of a play
+pub record Played (trace buffer : List ℕ) (result : Answer) (answers : List ℕ) : Type 0 where
+  pub answer : result ≡ played trace (length buffer)
   pub bytes : answers ≡ played_buffer trace buffer
 
-pub refused : (trace buffer : List ℕ) (n : ℕ) → trace_number trace (length buffer) ≡ n → (n ≡ 0 → ⊥) → Played trace buffer n buffer
-unfolding calls_answered played_buffer
-refused trace buffer n e some =
+pub refused : (trace buffer : List ℕ) (refusal : Refusal) → asked (trace_questions trace (length buffer)) ≡ Err refusal → Played trace buffer (Err refusal) buffer
+unfolding played played_buffer trace_number
+refused trace buffer refusal e =
     record {
-      number = rw (e, ne_eqb n 0 some) (omega arith);
-      bytes = rw (e, ne_eqb n 0 some);
+      answer = sym (answered_err (trace_questions trace (length buffer)) (length (calls_of trace)) refusal e);
+      bytes =
+          rw (ne_eqb (first_no (trace_questions trace (length buffer))) 0 (λ none. omega (arith, err_first (trace_questions trace (length buffer)) refusal e, number_some refusal)));
     }
 
 pub accepted :
-    (trace buffer : List ℕ) → trace_number trace (length buffer) ≡ 0
-    → Played trace buffer (256 * length (calls_of trace)) (in_buffer (answers_of (range_of trace) (calls_of trace)) buffer)
-unfolding calls_answered played_buffer
+    (trace buffer : List ℕ) → asked (trace_questions trace (length buffer)) ≡ Ok record {}
+    → Played trace buffer (Ok (length (calls_of trace))) (in_buffer (answers_of (range_of trace) (calls_of trace)) buffer)
+unfolding played played_buffer trace_number
 accepted trace buffer e =
     record {
-      number = rw e (omega arith);
-      bytes = rw e;
+      answer = sym (answered_ok (trace_questions trace (length buffer)) (length (calls_of trace)) e);
+      bytes = rw (ok_first (trace_questions trace (length buffer)) e);
     }
 
 -- ---- the board
 
 -- the board that a trace's calls begin on
-pub opened_board : (trace : List ℕ) → is_heading trace ≡ true → (range : ℕ) → range ≡ range_of trace → (new_call range).board ≡ new_board (range_of trace)
-opened_board trace heading range same =
-    ap (λ (n : ℕ). new_board (cond (leb n 3) n 0)) same
-    ∙ ap (λ (t : Bool). new_board (cond t (range_of trace) 0)) (le-leb (range_of trace) 3 (heading_parts trace heading).range)
+pub opened_board : (trace : List ℕ) → is_heading trace ≡ true → (b : Board) (range : ℕ) → range ≡ range_of trace → (open_call b range).board ≡ new_board (range_of trace)
+opened_board trace heading b range same =
+    ap (λ (n : ℕ). cond (leb n 3) (new_board n) b) same
+    ∙ ap (λ (t : Bool). cond t (new_board (range_of trace)) b) (le-leb (range_of trace) 3 (heading_parts trace heading).range)

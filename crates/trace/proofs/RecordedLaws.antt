@@ -9,8 +9,6 @@ use native.Mathlib.Numerals.{add-one}
 use native.Mathlib.Omega.{arith}
 use lib.ListN.{length, get_or, take, drop, length-append}
 use lib.Seq.{take-append_seam, get_or-append_seam, get_or-append-add, take-add}
-use Rattle.analog.specs.declared.Answer.{Answer}
-use Rattle.analog.specs.declared.Answer.TheVariants.{Accepted}
 use Rattle.pmc330_model.specs.Calls.{Call}
 use Rattle.pmc330_model.specs.Logbook.{Logbook, logged, logged_answer, logged_from, logged_answers_from, logbook_of, logbook_answers, new_logbook}
 use Rattle.pmc330_model.specs.Words.{to_bit}
@@ -23,6 +21,8 @@ use Rattle.trace.specs.Sentences.{RecordedCall, index_of, is_as_recorded, AllAgr
 use Rattle.trace.specs.declared.Replayed.TheVariants.{Differs}
 use Rattle.trace.proofs.FieldLaws.{answer_else, answer_no_call, call_no_answer, calls_counted}
 use Rattle.trace.proofs.FieldBytes.{is_sound, all_sound}
+use Rattle.std.specs.Prelude.{Ok}
+use Rattle.analog.specs.Answers.{Answer}
 
 -- ---- lists of fields, in two parts
 
@@ -128,8 +128,8 @@ module _ (range : ℕ) (fields : List Field) where
       let calls : calls_among fields ≡ calls_among r.before ++ (call_in r.call ∷ calls_among (r.answer ∷ r.after)) =
       ap calls_among r.place ∙ calls_append r.before (r.call ∷ r.answer ∷ r.after) ∙ ap (λ (l : List Call). calls_among r.before ++ l) (rw r.call_tag) in
       ap (answer_to answers) (add-one (length (calls_among r.before)))
-      ∙ ap (λ (l : List Call). get_or (logbook_answers range l) (length (calls_among r.before)) (Accepted 0)) calls
-      ∙ logged_at (new_logbook range) (calls_among r.before) (call_in r.call) (calls_among (r.answer ∷ r.after)) (Accepted 0)
+      ∙ ap (λ (l : List Call). get_or (logbook_answers range l) (length (calls_among r.before)) (Ok 0)) calls
+      ∙ logged_at (new_logbook range) (calls_among r.before) (call_in r.call) (calls_among (r.answer ∷ r.after)) (Ok 0)
 
   -- fields that end in a call
   pub record EndsInCall (done : List Field) : Type 0 where

@@ -2,27 +2,26 @@
 use mathlib.Core.Bool.{Bool, true, false, cond}
 use mathlib.Core.List.{List, [], ◌∷◌}
 use mathlib.Core.Path.{◌≡◌, refl, sym, ap, ◌∙◌}
-use Prim.Native.Nat.{ℕ, ◌+◌, ◌≤◌, ◌<◌}
+use Prim.Native.Nat.{ℕ, ◌+◌, ◌<◌}
 use native.Mathlib.Nat.{add-zero}
 use native.Mathlib.Numerals.{add-one}
-use native.Mathlib.Omega.{arith}
-use lib.ListN.{length, get_or, drop, length-drop}
+use lib.ListN.{length, get_or, drop}
 use lib.Seq.{get_or-drop, drop-drop}
-use borrow.Author.Tests.{eq-eqb, ne_eqb}
-use Rattle.analog.specs.Answers.{first_no}
-use Rattle.analog.specs.declared.Answer.{Answer}
-use Rattle.analog.specs.declared.Answer.TheVariants.{Accepted}
-use Rattle.pmc330_model.specs.Board.{board_call, new_board, answers_from}
+use Rattle.analog.specs.Answers.{Answer, first_no, asked}
+use Rattle.analog.specs.declared.Refusal.{Refusal}
+use Rattle.analog.proofs.AnswerLaws.{none_asked}
+use Rattle.pmc330_model.specs.Board.{board_call, new_board, answers_from, answers_of}
 use Rattle.pmc330_model.specs.declared.Board.{Board}
 use Rattle.pmc330_model.specs.declared.Reply.{Reply}
-use Rattle.trace.specs.Grammar.{length_of, is_call_tag}
-use Rattle.trace.specs.Fields.{Field, tag_of, body_of, first_field, range_of, whole, fields_of, listed, fields_after, call_in, calls_among, calls_of}
-use Rattle.trace.specs.Replay.{is_equal, Comparison, answer_to, comparisons_from, first_difference, replayed}
+use Rattle.trace.specs.Grammar.{is_call_tag}
+use Rattle.trace.specs.Fields.{Field, tag_of, body_of, first_field, after_field, range_of, whole, fields_of, listed, fields_after, call_in, calls_among, calls_of}
+use Rattle.trace.specs.Replay.{is_equal, Comparison, answer_to, comparisons_from, first_difference, unless_refused, replayed}
 use Rattle.trace.specs.Play.{field_questions}
 use Rattle.trace.specs.Machine.{Walkable}
 use Rattle.trace.specs.declared.Replayed.{Replayed}
-use Rattle.trace.specs.declared.Replayed.TheVariants.{Refused, Agree, Differs}
+use Rattle.trace.specs.declared.Replayed.TheVariants.{Agree, Differs}
 use Rattle.trace.proofs.FieldLaws.{Next, next_field, call_front, other_front, fields_end}
+use Rattle.std.specs.Prelude.{Result, Ok, Err, ⊤}
 
 -- the answers of the calls of a trace from a board on, and what the replay finds
 abbrev answers_in : (trace : List ℕ) (start : Board) → List Answer
@@ -32,24 +31,18 @@ abbrev finds_on : (trace : List ℕ) (start : Board) → Replayed
 finds_on trace start = first_difference 0 (comparisons_from 0 (answers_in trace start) (fields_after trace))
 
 -- where the replay stands: the comparisons that are left find what all of them find
-pub record Replaying (trace : List ℕ) (start board : Board) (at index count : ℕ) (answer : Answer) : Type 0 where
-  pub within : at ≤ length trace
+pub record Replaying (trace : List ℕ) (start board : Board) (bytes : List ℕ) (index count : ℕ) (answer : Answer) : Type 0 where
   pub rest : List Field
-  pub fields : fields_of (drop at trace) ≡ whole rest
-  pub indexed : index ≤ at
-  pub counted : count ≤ at
+  pub fields : fields_of bytes ≡ whole rest
   pub left : answers_from board (calls_among rest) ≡ drop index (answers_in trace start)
   pub last : answer ≡ answer_to (answers_in trace start) index
   pub found : first_difference count (comparisons_from index (answers_in trace start) rest) ≡ finds_on trace start
 
-pub replay_opens : (trace : List ℕ) (start : Board) → Walkable trace → Replaying trace start start 8 0 0 (Accepted 0)
+pub replay_opens : (trace : List ℕ) (start : Board) → Walkable trace → Replaying trace start start (drop 8 trace) 0 0 (Ok 0)
 replay_opens trace start w =
     record {
-      within = w.long;
       rest = fields_after trace;
       fields = w.undamaged;
-      indexed = omega arith;
-      counted = omega arith;
       left = refl;
       last = refl;
       found = refl;
@@ -58,43 +51,40 @@ replay_opens trace start w =
 -- the next of the answers that are left
 next_answer : (answers later : List Answer) (answer : Answer) (index : ℕ) → answer ∷ later ≡ drop index answers → (answer ≡ answer_to answers (index + 1)) × (later ≡ drop (index + 1) answers)
 next_answer answers later answer index e = (
-  ap (λ (l : List Answer). get_or l 0 (Accepted 0)) e
-      ∙ get_or-drop index answers 0 (Accepted 0)
-      ∙ ap (λ (n : ℕ). get_or answers n (Accepted 0)) (add-zero index)
+  ap (λ (l : List Answer). get_or l 0 (Ok 0)) e
+      ∙ get_or-drop index answers 0 (Ok 0)
+      ∙ ap (λ (n : ℕ). get_or answers n (Ok 0)) (add-zero index)
       ∙ sym (ap (answer_to answers) (add-one index)),
   ap (drop 1) e ∙ drop-drop 1 index answers,
 )
 
 module _
-    (trace : List ℕ) (start board : Board) (at index count : ℕ) (answer : Answer)
-    (p : Replaying trace start board at index count answer) (some : at < length trace)
-    (size : ℕ) (e : size ≡ length_of (get_or trace at 0))
+    (trace : List ℕ) (start board : Board) (bytes : List ℕ) (index count : ℕ) (answer : Answer)
+    (p : Replaying trace start board bytes index count answer) (some : 0 < length bytes)
+    (after : List ℕ) (e : after ≡ after_field bytes)
   where
-    pub field_compared : Next trace at size p.rest
-    field_compared = next_field trace at size p.rest some e p.fields
+    pub field_compared : Next bytes after p.rest
+    field_compared = next_field bytes after p.rest some p.fields e
 
     abbrev later : List Field
     later = field_compared.later
 
     abbrev comparison : Comparison
-    comparison = record { index = index; answer = answer_to (answers_in trace start) index; body = body_of (drop at trace) }
+    comparison = record { index = index; answer = answer_to (answers_in trace start) index; body = body_of bytes }
 
     -- a call is made
     pub makes :
-        is_call_tag (tag_of (drop at trace)) ≡ true → (reply : Reply) → reply ≡ board_call board (call_in (first_field (drop at trace)))
-        → Replaying trace start reply.board (at + 3 + size) (index + 1) count reply.answer
+        is_call_tag (tag_of bytes) ≡ true → (reply : Reply) → reply ≡ board_call board (call_in (first_field bytes))
+        → Replaying trace start reply.board after (index + 1) count reply.answer
     unfolding answers_from comparisons_from
     makes made reply r =
-        let calls = ap calls_among field_compared.same ∙ call_front (first_field (drop at trace)) later made in
+        let calls = ap calls_among field_compared.same ∙ call_front (first_field bytes) later made in
         let answered : reply.answer ∷ answers_from reply.board (calls_among later) ≡ drop index (answers_in trace start) =
         ap (λ (s : Reply). s.answer ∷ answers_from s.board (calls_among later)) r ∙ sym (ap (answers_from board) calls) ∙ p.left in
         let next = next_answer (answers_in trace start) (answers_from reply.board (calls_among later)) reply.answer index answered in
         record {
-          within = field_compared.ends;
           rest = later;
           fields = field_compared.following;
-          indexed = omega (arith, p.indexed);
-          counted = omega (arith, p.counted);
           left = next.1;
           last = next.0;
           found =
@@ -105,53 +95,53 @@ module _
 
     -- a recorded answer is compared with that of the last call
     compared :
-        is_call_tag (tag_of (drop at trace)) ≡ false
-        → cond (is_equal answer (body_of (drop at trace))) (first_difference (count + 1) (comparisons_from index (answers_in trace start) later)) (Differs index (count + 1))
+        is_call_tag (tag_of bytes) ≡ false
+        → cond (is_equal answer (body_of bytes)) (first_difference (count + 1) (comparisons_from index (answers_in trace start) later)) (Differs index (count + 1))
         ≡ finds_on trace start
     unfolding comparisons_from first_difference
     compared other =
-        ap (λ (a : Answer). cond (is_equal a (body_of (drop at trace))) (first_difference (count + 1) (comparisons_from index (answers_in trace start) later)) (Differs index (count + 1))) p.last
+        ap (λ (a : Answer). cond (is_equal a (body_of bytes)) (first_difference (count + 1) (comparisons_from index (answers_in trace start) later)) (Differs index (count + 1))) p.last
         ∙ sym (ap (λ (t : Bool). first_difference count (cond t (comparisons_from (index + 1) (answers_in trace start) later) (comparison ∷ comparisons_from index (answers_in trace start) later))) other)
         ∙ sym (ap (λ (fields : List Field). first_difference count (comparisons_from index (answers_in trace start) fields)) field_compared.same)
         ∙ p.found
 
     pub agrees :
-        is_call_tag (tag_of (drop at trace)) ≡ false → is_equal answer (body_of (drop at trace)) ≡ true
-        → Replaying trace start board (at + 3 + size) index (count + 1) answer
+        is_call_tag (tag_of bytes) ≡ false → is_equal answer (body_of bytes) ≡ true
+        → Replaying trace start board after index (count + 1) answer
     agrees other equal =
         record {
-          within = field_compared.ends;
           rest = later;
           fields = field_compared.following;
-          indexed = omega (arith, p.indexed);
-          counted = omega (arith, p.counted);
-          left = sym (ap (answers_from board) (ap calls_among field_compared.same ∙ other_front (first_field (drop at trace)) later other)) ∙ p.left;
+          left = sym (ap (answers_from board) (ap calls_among field_compared.same ∙ other_front (first_field bytes) later other)) ∙ p.left;
           last = p.last;
           found = sym (ap (λ (t : Bool). cond t (first_difference (count + 1) (comparisons_from index (answers_in trace start) later)) (Differs index (count + 1))) equal) ∙ compared other;
         }
 
-    pub differs : is_call_tag (tag_of (drop at trace)) ≡ false → is_equal answer (body_of (drop at trace)) ≡ false → Differs index (count + 1) ≡ finds_on trace start
+    pub differs : is_call_tag (tag_of bytes) ≡ false → is_equal answer (body_of bytes) ≡ false → Differs index (count + 1) ≡ finds_on trace start
     differs other unequal =
         sym (ap (λ (t : Bool). cond t (first_difference (count + 1) (comparisons_from index (answers_in trace start) later)) (Differs index (count + 1))) unequal)
         ∙ compared other
 
 -- at the end
 pub all_agree :
-    (trace : List ℕ) (start board : Board) (at index count : ℕ) (answer : Answer)
-    → Replaying trace start board at index count answer → length trace ≤ at → Agree count ≡ finds_on trace start
+    (trace : List ℕ) (start board : Board) (bytes : List ℕ) (index count : ℕ) (answer : Answer)
+    → Replaying trace start board bytes index count answer → length bytes ≡ 0 → Agree count ≡ finds_on trace start
 unfolding comparisons_from first_difference
-all_agree trace start board at index count answer p end =
+all_agree trace start board bytes index count answer p end =
     ap (λ (fields : List Field). first_difference count (comparisons_from index (answers_in trace start) fields)) none ∙ p.found
   where
     none : [] ≡ p.rest
-    none = ap listed (sym (fields_end (drop at trace) (omega (arith, length-drop at trace))) ∙ p.fields)
+    none = ap listed (sym (fields_end bytes end) ∙ p.fields)
 
 -- ---- what a replay gives
 
-pub replay_refused : (trace : List ℕ) (n : ℕ) → first_no (field_questions trace) ≡ n → (n ≡ 0 → ⊥) → replayed trace ≡ Refused n
+pub replay_refused : (trace : List ℕ) (refusal : Refusal) → asked (field_questions trace) ≡ Err refusal → replayed trace ≡ Err refusal
 unfolding replayed
-replay_refused trace n e some = rw (e, ne_eqb n 0 some)
+replay_refused trace refusal e =
+    ap (λ (r : Result ⊤ Refusal). unless_refused r (first_difference 0 (comparisons_from 0 (answers_of (range_of trace) (calls_of trace)) (fields_after trace)))) e
 
-pub replay_runs : (trace : List ℕ) → first_no (field_questions trace) ≡ 0 → replayed trace ≡ finds_on trace (new_board (range_of trace))
+pub replay_runs : (trace : List ℕ) → first_no (field_questions trace) ≡ 0 → replayed trace ≡ Ok (finds_on trace (new_board (range_of trace)))
 unfolding replayed
-replay_runs trace none = rw (eq-eqb (first_no (field_questions trace)) 0 none)
+replay_runs trace none =
+    ap (λ (r : Result ⊤ Refusal). unless_refused r (first_difference 0 (comparisons_from 0 (answers_of (range_of trace) (calls_of trace)) (fields_after trace))))
+    (none_asked (field_questions trace) none)

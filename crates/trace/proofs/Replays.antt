@@ -1,27 +1,28 @@
 -- The sentences on replays, proved. Their statements are in specs/Sentences.antt.
-use mathlib.Core.Bool.{Bool, true, false, cond, ◌&&◌, false≢true}
+use mathlib.Core.Bool.{Bool, true, false, cond, false≢true}
 use mathlib.Core.List.{List, [], ◌∷◌, ◌++◌, append-nil}
-use mathlib.Core.Logic.{◌⊎◌, inl, inr, ⊎_elim}
+use mathlib.Core.Logic.{◌⊎◌, inl, inr}
 use mathlib.Core.Path.{◌≡◌, refl, sym, ap, ap₂, subst, ◌∙◌}
 use Prim.Native.Nat.{ℕ, ◌+◌, ◌≤◌, ◌<◌}
 use native.Mathlib.Nat.{zero-add}
 use native.Mathlib.Omega.{arith}
-use lib.Dec.{eqb, leb}
+use lib.Dec.{eqb}
 use lib.ListN.{length, drop, length-drop}
 use borrow.Author.Tests.{ne_eqb}
-use Rattle.analog.specs.Answers.{first_no, all_met}
-use Rattle.analog.specs.declared.Answer.{Answer}
-use Rattle.analog.proofs.AnswerLaws.{none_first, some_first}
+use Rattle.std.specs.Prelude.{Result, Ok, Err}
+use Rattle.analog.specs.Answers.{number_of_refusal, first_no, all_met, Answer}
+use Rattle.analog.specs.declared.Refusal.{Refusal}
+use Rattle.analog.specs.declared.Refusal.TheVariants.{BadWidth, BadOffset, Unmapped, BadValue, BadDirection, Busy, BadCode, NoScan, BadChannels, BadInterval, BadChannel, BadVoltage, BadTicks, BadRange, BadCalibration, BadCodes, BadSums, BadHeading, BadField, ShortBuffer, BadWindow, BadSlot, StrayAnswer, BadSeed, NoRoom}
+use Rattle.analog.proofs.AnswerLaws.{number_some, Outcome, met, unmet, outcome, none_first}
 use Rattle.pmc330_model.specs.Board.{answers_of}
-use Rattle.pmc330_model.proofs.Cases.{same_or_not}
 use Rattle.pmc330_model.proofs.Theorems.{answers_agree}
 use Rattle.trace.specs.Grammar.{is_call_tag}
-use Rattle.trace.specs.Fields.{Field, tag_of, range_of, is_heading, is_undamaged, later_fields, fields_after, call_fields, answer_fields, calls_among, calls_of}
+use Rattle.trace.specs.Fields.{Field, tag_of, range_of, fields_after, call_fields, answer_fields, calls_among, calls_of}
 use Rattle.trace.specs.Play.{answers_follow, field_questions}
 use Rattle.trace.specs.Replay.{is_equal, answer_to, comparisons_from, first_difference, replayed, replay_number, replay_index, replay_count}
-use Rattle.trace.specs.Sentences.{EveryRefusedReplay, RecordedCall, index_of, count_to, is_as_recorded, AllAgree, FirstDiffers, EveryReplay, EveryPackedReplay}
+use Rattle.trace.specs.Sentences.{RefusedReplay, EveryRefusedReplay, RecordedCall, index_of, count_to, is_as_recorded, AllAgree, FirstDiffers, EveryReplay, EveryPackedReplay}
 use Rattle.trace.specs.declared.Replayed.{Replayed}
-use Rattle.trace.specs.declared.Replayed.TheVariants.{Refused, Agree, Differs}
+use Rattle.trace.specs.declared.Replayed.TheVariants.{Agree, Differs}
 use Rattle.trace.proofs.FieldBytes.{all_sound, parsed}
 use Rattle.trace.proofs.FieldLaws.{heading_no_call}
 use Rattle.trace.proofs.CheckLaws.{heading_parts, is_heading_lem, follows, walkable}
@@ -29,17 +30,23 @@ use Rattle.trace.proofs.ReplayLaws.{replay_refused, replay_runs}
 use Rattle.trace.proofs.RecordedLaws.{EndsInCall, search_from, answers, answer_is, all_equal_lem, compared_next, all_equal, difference_after, comparisons_append, comparisons_counted, sound_before}
 
 pub replays_refused : EveryRefusedReplay
-replays_refused trace unmet =
-    replay_refused trace (first_no (field_questions trace)) refl (λ none. omega (arith, some_first (field_questions trace) refl unmet))
+replays_refused trace failed = go (outcome (field_questions trace))
+  where
+    go : Outcome (field_questions trace) → RefusedReplay trace
+    go (met all none ok) = absurd (false≢true (sym failed ∙ all))
+    go (unmet refusal some number err) = record { refusal = refusal; first = err; result = replay_refused trace refusal err; number = sym number }
 
 -- ---- how large its numbers are
 
-pub record Small (most : ℕ) (replay : Replayed) : Type 0 where
+pub record Small (most : ℕ) (replay : Result Replayed Refusal) : Type 0 where
   pub number : replay_number replay < 256
   pub index : replay_index replay ≤ most
   pub count : replay_count replay ≤ most
 
-differs_small : (answers : List Answer) (fields : List Field) (index count most : ℕ) → index + length fields ≤ most → count + length fields ≤ most → Small most (first_difference count (comparisons_from index answers fields))
+abbrev pub SmallFound : (most : ℕ) → Replayed → Type 0
+SmallFound most found = Small most (Ok found)
+
+differs_small : (answers : List Answer) (fields : List Field) (index count most : ℕ) → index + length fields ≤ most → count + length fields ≤ most → SmallFound most (first_difference count (comparisons_from index answers fields))
 unfolding first_difference comparisons_from
 differs_small answers [] index count most i n = record { number = omega arith; index = omega arith; count = omega arith }
 differs_small answers (field ∷ fields) index count most i n =
@@ -48,47 +55,60 @@ differs_small answers (field ∷ fields) index count most i n =
     (differs_small answers fields index (count + 1) most (omega arith) (omega arith))
   where
     compare :
-        (equal : Bool) → Small most (first_difference (count + 1) (comparisons_from index answers fields))
-        → Small most (cond equal (first_difference (count + 1) (comparisons_from index answers fields)) (Differs index (count + 1)))
+        (equal : Bool) → SmallFound most (first_difference (count + 1) (comparisons_from index answers fields))
+        → SmallFound most (cond equal (first_difference (count + 1) (comparisons_from index answers fields)) (Differs index (count + 1)))
     compare true later = later
     compare false later = record { number = omega arith; index = omega arith; count = omega arith }
 
     go :
-        (call : Bool) → Small most (first_difference count (comparisons_from (index + 1) answers fields))
-        → Small most (first_difference (count + 1) (comparisons_from index answers fields))
-        → Small most
+        (call : Bool) → SmallFound most (first_difference count (comparisons_from (index + 1) answers fields))
+        → SmallFound most (first_difference (count + 1) (comparisons_from index answers fields))
+        → SmallFound most
         (first_difference count
         (cond call (comparisons_from (index + 1) answers fields)
         (record { index = index; answer = answer_to answers index; body = field.body } ∷ comparisons_from index answers fields)))
     go true made compared = made
     go false made compared = compare (is_equal (answer_to answers index) field.body) compared
 
-number_small : (a b d : Bool) → cond a (cond b (cond d 0 26) 19) 18 < 256
-number_small true true true = omega arith
-number_small true true false = omega arith
-number_small true false d = omega arith
-number_small false b d = omega arith
-
-first_small : (trace : List ℕ) → first_no (field_questions trace) < 256
-unfolding first_no
-first_small trace =
-    number_small (leb (length trace) 16_777_216 && is_heading trace) (is_undamaged (later_fields trace)) (answers_follow (tag_of trace) (fields_after trace))
+number_small : (refusal : Refusal) → number_of_refusal refusal < 256
+number_small BadWidth = omega arith
+number_small BadOffset = omega arith
+number_small Unmapped = omega arith
+number_small BadValue = omega arith
+number_small BadDirection = omega arith
+number_small Busy = omega arith
+number_small BadCode = omega arith
+number_small NoScan = omega arith
+number_small BadChannels = omega arith
+number_small BadInterval = omega arith
+number_small BadChannel = omega arith
+number_small BadVoltage = omega arith
+number_small BadTicks = omega arith
+number_small BadRange = omega arith
+number_small BadCalibration = omega arith
+number_small BadCodes = omega arith
+number_small BadSums = omega arith
+number_small BadHeading = omega arith
+number_small BadField = omega arith
+number_small ShortBuffer = omega arith
+number_small BadWindow = omega arith
+number_small BadSlot = omega arith
+number_small StrayAnswer = omega arith
+number_small BadSeed = omega arith
+number_small NoRoom = omega arith
 
 -- a field has three bytes or more, and a trace at most 2^24
 pub replay_small : (trace : List ℕ) → Small 5_592_405 (replayed trace)
-replay_small trace = ⊎_elim runs stops (same_or_not (first_no (field_questions trace)) 0)
+replay_small trace = go (outcome (field_questions trace))
   where
-    runs : first_no (field_questions trace) ≡ 0 → Small 5_592_405 (replayed trace)
-    runs none =
+    go : Outcome (field_questions trace) → Small 5_592_405 (replayed trace)
+    go (met all none ok) =
         let w = walkable trace none in
         let few = (parsed (drop 8 trace) (fields_after trace) w.undamaged).few in
         subst (Small 5_592_405) (sym (replay_runs trace none))
         (differs_small (answers_of (range_of trace) (calls_of trace)) (fields_after trace) 0 0 5_592_405 (omega (arith, few, length-drop 8 trace, w.short)) (omega (arith, few, length-drop 8 trace, w.short)))
-
-    stops : (first_no (field_questions trace) ≡ 0 → ⊥) → Small 5_592_405 (replayed trace)
-    stops some =
-        subst (Small 5_592_405) (sym (replay_refused trace (first_no (field_questions trace)) refl some))
-        (record { number = first_small trace; index = omega arith; count = omega arith })
+    go (unmet refusal some number err) =
+        subst (Small 5_592_405) (sym (replay_refused trace refusal err)) (record { number = number_small refusal; index = omega arith; count = omega arith })
 
 -- ---- what it finds
 
@@ -103,11 +123,11 @@ module _ (trace : List ℕ) (met : all_met (field_questions trace) ≡ true) whe
   sound = (parsed (drop 8 trace) fields (walkable trace none).undamaged).sound
 
   -- by the logbook's answers
-  finds : replayed trace ≡ first_difference 0 (comparisons_from 0 (answers (range_of trace) fields) fields)
+  finds : replayed trace ≡ Ok (first_difference 0 (comparisons_from 0 (answers (range_of trace) fields) fields))
   finds =
       let valid = (heading_parts trace (is_heading_lem trace none)).range in
       replay_runs trace none
-      ∙ ap (λ (l : List Answer). first_difference 0 (comparisons_from 0 l fields)) (answers_agree (range_of trace) (omega (arith, valid)) (calls_of trace))
+      ∙ ap (λ (l : List Answer). Ok (first_difference 0 (comparisons_from 0 l fields))) (answers_agree (range_of trace) (omega (arith, valid)) (calls_of trace))
 
   -- the heading is no call
   no_call_before : is_call_tag (tag_of trace) ≡ true → EndsInCall (range_of trace) fields []
@@ -126,17 +146,18 @@ module _ (trace : List ℕ) (met : all_met (field_questions trace) ≡ true) whe
       (sound_before part rest (ap all_sound (sym place) ∙ sound))
       (omega (arith, most))
 
-  agrees : AllAgree (range_of trace) fields → replayed trace ≡ Agree (length (answer_fields fields))
+  agrees : AllAgree (range_of trace) fields → replayed trace ≡ Ok (Agree (length (answer_fields fields)))
   unfolding first_difference
   agrees right =
       let all = comparisons_from 0 (answers (range_of trace) fields) fields in
       let equal = first_equal (length (calls_among fields)) (λ r most. right r) fields [] (sym (append-nil fields)) (omega arith) in
       finds
-      ∙ ap (first_difference 0) (sym (append-nil all))
+      ∙ ap Ok
+      (ap (first_difference 0) (sym (append-nil all))
       ∙ difference_after 0 all [] equal
-      ∙ ap Agree (zero-add (length all) ∙ comparisons_counted (answers (range_of trace) fields) 0 fields sound)
+      ∙ ap Agree (zero-add (length all) ∙ comparisons_counted (answers (range_of trace) fields) 0 fields sound))
 
-  differing : (first : FirstDiffers (range_of trace) fields) → replayed trace ≡ Differs (index_of first.recorded) (count_to first.recorded)
+  differing : (first : FirstDiffers (range_of trace) fields) → replayed trace ≡ Ok (Differs (index_of first.recorded) (count_to first.recorded))
   differing first =
       let r = first.recorded in
       let tail : List Field = r.call ∷ r.answer ∷ r.after in
@@ -145,50 +166,132 @@ module _ (trace : List ℕ) (met : all_met (field_questions trace) ≡ true) whe
       let equal = first_equal (length (calls_among r.before)) (λ s most. first.equal_before s (omega (arith, most))) r.before tail r.place (omega arith) in
       let counted = comparisons_counted logbook 0 r.before (sound_before r.before tail (ap all_sound (sym r.place) ∙ sound)) in
       finds
-      ∙ ap (λ (l : List Field). first_difference 0 (comparisons_from 0 logbook l)) r.place
+      ∙ ap Ok
+      (ap (λ (l : List Field). first_difference 0 (comparisons_from 0 logbook l)) r.place
       ∙ ap (first_difference 0) (comparisons_append logbook 0 r.before tail)
       ∙ difference_after 0 before (comparisons_from (0 + length (calls_among r.before)) logbook tail) equal
       ∙ ap₂ (λ (n m : ℕ). first_difference n (comparisons_from m logbook tail)) (zero-add (length before) ∙ counted) (zero-add (length (calls_among r.before)))
-      ∙ compared_next (range_of trace) fields r (length (answer_fields r.before)) false (ap (λ (a : Answer). is_equal a r.answer.body) (answer_is (range_of trace) fields r) ∙ first.unequal)
+      ∙ compared_next (range_of trace) fields r (length (answer_fields r.before)) false (ap (λ (a : Answer). is_equal a r.answer.body) (answer_is (range_of trace) fields r) ∙ first.unequal))
 
   which_holds : AllAgree (range_of trace) fields ⊎ FirstDiffers (range_of trace) fields
   which_holds =
       search_from (range_of trace) fields [] fields (tag_of trace) refl no_call_before (follows trace none) sound (λ r most. absurd (omega (arith, most)))
 
 pub replays_answered : EveryReplay
-replays_answered trace met = record { either = which_holds trace met; agree = agrees trace met; differs = differing trace met }
+replays_answered trace all = record { either = which_holds trace all; agree = agrees trace all; differs = differing trace all }
 
 -- ---- what C gets
 
--- which case it is
-abbrev Which : Replayed → Type 0
-Which replay =
-    replay
-    ≡ cond (eqb (replay_number replay) 0) (cond (eqb (replay_index replay) 0) (Agree (replay_count replay)) (Differs (replay_index replay) (replay_count replay))) (Refused (replay_number replay))
+-- a number is one refusal's
+refusal_of : (number : ℕ) → Refusal
+refusal_of number =
+    cond (eqb number 1) BadWidth
+    (cond (eqb number 2) BadOffset
+    (cond (eqb number 3) Unmapped
+    (cond (eqb number 4) BadValue
+    (cond (eqb number 5) BadDirection
+    (cond (eqb number 6) Busy
+    (cond (eqb number 7) BadCode
+    (cond (eqb number 8) NoScan
+    (cond (eqb number 9) BadChannels
+    (cond (eqb number 10) BadInterval
+    (cond (eqb number 11) BadChannel
+    (cond (eqb number 12) BadVoltage
+    (cond (eqb number 13) BadTicks
+    (cond (eqb number 14) BadRange
+    (cond (eqb number 15) BadCalibration
+    (cond (eqb number 16) BadCodes
+    (cond (eqb number 17) BadSums
+    (cond (eqb number 18) BadHeading
+    (cond (eqb number 19) BadField
+    (cond (eqb number 20) ShortBuffer
+    (cond (eqb number 21) BadWindow
+    (cond (eqb number 22) BadSlot (cond (eqb number 26) StrayAnswer (cond (eqb number 27) BadSeed NoRoom)))))))))))))))))))))))
 
-refused_is : (n : ℕ) → 0 < n → Which (Refused n)
-refused_is n some = sym (ap (λ (t : Bool). cond t (Agree 0) (Refused n)) (ne_eqb n 0 (λ e. omega arith)))
+refusal_back : (refusal : Refusal) → refusal_of (number_of_refusal refusal) ≡ refusal
+unfolding refusal_of
+refusal_back BadWidth = refl
+refusal_back BadOffset = refl
+refusal_back Unmapped = refl
+refusal_back BadValue = refl
+refusal_back BadDirection = refl
+refusal_back Busy = refl
+refusal_back BadCode = refl
+refusal_back NoScan = refl
+refusal_back BadChannels = refl
+refusal_back BadInterval = refl
+refusal_back BadChannel = refl
+refusal_back BadVoltage = refl
+refusal_back BadTicks = refl
+refusal_back BadRange = refl
+refusal_back BadCalibration = refl
+refusal_back BadCodes = refl
+refusal_back BadSums = refl
+refusal_back BadHeading = refl
+refusal_back BadField = refl
+refusal_back ShortBuffer = refl
+refusal_back BadWindow = refl
+refusal_back BadSlot = refl
+refusal_back StrayAnswer = refl
+refusal_back BadSeed = refl
+refusal_back NoRoom = refl
 
-differs_is : (index count : ℕ) → 0 < index → Which (Differs index count)
-differs_is index count some = sym (ap (λ (t : Bool). cond t (Agree count) (Differs index count)) (ne_eqb index 0 (λ e. omega arith)))
+same_refusal : (a b : Refusal) → number_of_refusal a ≡ number_of_refusal b → a ≡ b
+same_refusal a b e = sym (refusal_back a) ∙ ap refusal_of e ∙ refusal_back b
 
-which_case : (trace : List ℕ) → Which (replayed trace)
-which_case trace = go (all_met (field_questions trace)) refl
+-- which case a replay is
+record ReadBack (replay : Result Replayed Refusal) : Type 0 where
+  numbered : 0 < replay_number replay → (refusal : Refusal) × (replay_number replay ≡ number_of_refusal refusal)
+  refused : (refusal : Refusal) → replay_number replay ≡ number_of_refusal refusal → replay ≡ Err refusal
+  found : replay_number replay ≡ 0 → replay ≡ Ok (cond (eqb (replay_index replay) 0) (Agree (replay_count replay)) (Differs (replay_index replay) (replay_count replay)))
+
+not_refused : (replay : Result Replayed Refusal) (refusal : Refusal) → replay_number replay ≡ 0 → replay_number replay ≡ number_of_refusal refusal → replay ≡ Err refusal
+not_refused replay refusal none number = absurd (omega (arith, number_some refusal))
+
+refused_is : (refusal : Refusal) → ReadBack (Err refusal)
+refused_is refusal =
+    record {
+      numbered = λ some. (refusal, refl);
+      refused = λ other number. ap Err (same_refusal refusal other number);
+      found = λ none. absurd (omega (arith, none, number_some refusal));
+    }
+
+agree_is : (count : ℕ) → ReadBack (Ok (Agree count))
+agree_is count =
+    record {
+      numbered = λ some. absurd (omega (arith, some));
+      refused = λ refusal number. not_refused (Ok (Agree count)) refusal refl number;
+      found = λ none. refl;
+    }
+
+differs_is : (index count : ℕ) → 0 < index → ReadBack (Ok (Differs index count))
+differs_is index count first =
+    record {
+      numbered = λ some. absurd (omega (arith, some));
+      refused = λ refusal number. not_refused (Ok (Differs index count)) refusal refl number;
+      found = λ none. sym (ap (λ (t : Bool). Ok (cond t (Agree count) (Differs index count))) (ne_eqb index 0 (λ e. omega arith)));
+    }
+
+which_case : (trace : List ℕ) → ReadBack (replayed trace)
+which_case trace = go (outcome (field_questions trace))
   where
-    found : (met : all_met (field_questions trace) ≡ true) → AllAgree (range_of trace) (fields_after trace) ⊎ FirstDiffers (range_of trace) (fields_after trace) → Which (replayed trace)
-    found met (inl all) = subst Which (sym (agrees trace met all)) refl
-    found met (inr first) = subst Which (sym (differing trace met first)) (differs_is (index_of first.recorded) (count_to first.recorded) (omega arith))
+    found : (all : all_met (field_questions trace) ≡ true) → AllAgree (range_of trace) (fields_after trace) ⊎ FirstDiffers (range_of trace) (fields_after trace) → ReadBack (replayed trace)
+    found all (inl agree) = subst ReadBack (sym (agrees trace all agree)) (agree_is (length (answer_fields (fields_after trace))))
+    found all (inr first) = subst ReadBack (sym (differing trace all first)) (differs_is (index_of first.recorded) (count_to first.recorded) (omega arith))
 
-    go : (t : Bool) → all_met (field_questions trace) ≡ t → Which (replayed trace)
-    go true met = found met (which_holds trace met)
-    go false unmet = subst Which (sym (replays_refused trace unmet)) (refused_is (first_no (field_questions trace)) (some_first (field_questions trace) refl unmet))
+    go : Outcome (field_questions trace) → ReadBack (replayed trace)
+    go (met all none ok) = found all (which_holds trace all)
+    go (unmet refusal some number err) = subst ReadBack (sym (replay_refused trace refusal err)) (refused_is refusal)
 
 pub replays_packed : EveryPackedReplay
 replays_packed trace =
     let small = replay_small trace in
+    let back = which_case trace in
     record {
       number = omega (arith, small.number);
       index = omega (arith, small.number, small.index);
       count = omega (arith, small.number, small.index);
-      which = which_case trace;
+      numbered = back.numbered;
+      refused = back.refused;
+      found = back.found;
     }

@@ -3,4 +3,5 @@ pub mod Fields
 pub mod Play
 pub mod Replay
 pub mod Sentences
+pub mod Stated
 pub mod Machine

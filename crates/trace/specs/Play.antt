@@ -1,10 +1,10 @@
 -- Document 01, "Traces": what the player answers, and what it leaves in the answer buffer.
 use Rattle.std.specs.Prelude.{ℕ, ◌+◌, ◌*◌, ◌/◌, ◌%◌, Bool, true, cond, ◌&&◌, List, [], ◌∷◌, ◌++◌, eqb, leb, length, drop}
-use Rattle.analog.specs.Answers.{Question, question, first_no, number_of, value_of}
-use Rattle.analog.specs.declared.Answer.{Answer}
+use Rattle.analog.specs.Answers.{Question, question, first_no, number_of, value_of, Answer, answered}
 use Rattle.pmc330_model.specs.Board.{answers_of}
 use Rattle.trace.specs.Grammar.{is_call_tag, is_answer_tag}
 use Rattle.trace.specs.Fields.{Field, tag_of, is_heading, range_of, later_fields, is_undamaged, fields_after, calls_of}
+use Rattle.analog.specs.declared.Refusal.TheVariants.{BadHeading, BadField, StrayAnswer, ShortBuffer}
 
 -- no recorded answer among fields is one "whose previous field isn't a call"; the tag of the field before them is given
 unfoldable pub answers_follow : (before : ℕ) → List Field → Bool
@@ -17,14 +17,18 @@ answers_follow before (field ∷ fields) =
 -- 26. 02, A6: "a 09H field whose previous field isn't a call, after 19"
 abbrev pub field_questions : (trace : List ℕ) → List Question
 field_questions trace =
-    question 18 (leb (length trace) 16_777_216 && is_heading trace)
-    ∷ question 19 (is_undamaged (later_fields trace))
-    ∷ question 26 (answers_follow (tag_of trace) (fields_after trace))
+    question BadHeading (leb (length trace) 16_777_216 && is_heading trace)
+    ∷ question BadField (is_undamaged (later_fields trace))
+    ∷ question StrayAnswer (answers_follow (tag_of trace) (fields_after trace))
     ∷ []
 
 -- 20. "Has the answer buffer at least 5 bytes per call?"
 abbrev pub trace_questions : (trace : List ℕ) (room : ℕ) → List Question
-trace_questions trace room = field_questions trace ++ (question 20 (leb (5 * length (calls_of trace)) room) ∷ [])
+trace_questions trace room = field_questions trace ++ (question ShortBuffer (leb (5 * length (calls_of trace)) room) ∷ [])
+
+-- what the player answers: how many calls, or the first question that meets a no
+unfoldable pub played : (trace : List ℕ) (room : ℕ) → Answer
+played trace room = answered (trace_questions trace room) (length (calls_of trace))
 
 unfoldable pub trace_number : (trace : List ℕ) (room : ℕ) → ℕ
 trace_number trace room = first_no (trace_questions trace room)

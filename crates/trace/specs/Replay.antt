@@ -1,14 +1,13 @@
 -- Document 02, A6: a replay, "the first call whose answer is not equal to the recorded one, or .. all agree".
-use Rattle.std.specs.Prelude.{ℕ, zero, suc, ◌+◌, ◌*◌, ◌%◌, Bool, cond, ◌&&◌, List, [], ◌∷◌, eqb, get_or}
-use Rattle.analog.specs.Answers.{first_no, number_of, value_of}
-use Rattle.analog.specs.declared.Answer.{Answer}
-use Rattle.analog.specs.declared.Answer.TheVariants.{Accepted}
+use Rattle.std.specs.Prelude.{ℕ, zero, suc, ◌+◌, ◌*◌, ◌%◌, Bool, cond, ◌&&◌, List, [], ◌∷◌, eqb, get_or, Result, Ok, Err, ⊤}
+use Rattle.analog.specs.Answers.{number_of_refusal, asked, number_of, value_of, Answer}
+use Rattle.analog.specs.declared.Refusal.{Refusal}
 use Rattle.pmc330_model.specs.Board.{answers_of}
 use Rattle.trace.specs.Grammar.{is_call_tag, number_at}
 use Rattle.trace.specs.Fields.{Field, range_of, fields_after, calls_of}
 use Rattle.trace.specs.Play.{field_questions}
 use Rattle.trace.specs.declared.Replayed.{Replayed}
-use Rattle.trace.specs.declared.Replayed.TheVariants.{Refused, Agree, Differs}
+use Rattle.trace.specs.declared.Replayed.TheVariants.{Agree, Differs}
 
 -- "Field 09H (number 1, value 4)": what a body records
 abbrev pub recorded_number : (body : List ℕ) → ℕ
@@ -30,8 +29,8 @@ pub record Comparison : Type 0 where
 
 -- the answer to the call of an index, from 1; question 26 lets no recorded answer through before the first call
 abbrev pub answer_to : List Answer → (index : ℕ) → Answer
-answer_to answers zero = Accepted 0
-answer_to answers (suc n) = get_or answers n (Accepted 0)
+answer_to answers zero = Ok 0
+answer_to answers (suc n) = get_or answers n (Ok 0)
 
 -- the comparisons that fields ask for, with so many calls before them: one for each recorded answer, since question 19 lets
 -- nothing else through that is no call
@@ -47,29 +46,32 @@ first_difference count [] = Agree count
 first_difference count (next ∷ later) =
     cond (is_equal next.answer next.body) (first_difference (count + 1) later) (Differs next.index (count + 1))
 
+-- a finding where no question meets a no, else the first that does
+abbrev pub unless_refused : Result ⊤ Refusal → Replayed → Result Replayed Refusal
+unless_refused (Ok all) found = Ok found
+unless_refused (Err refusal) found = Err refusal
+
 -- "A replay runs the trace": on a new board of its range. It has no answer buffer, so no question 20
-unfoldable pub replayed : (trace : List ℕ) → Replayed
+unfoldable pub replayed : (trace : List ℕ) → Result Replayed Refusal
 replayed trace =
-    cond (eqb (first_no (field_questions trace)) 0)
+    unless_refused (asked (field_questions trace))
     (first_difference 0 (comparisons_from 0 (answers_of (range_of trace) (calls_of trace)) (fields_after trace)))
-    (Refused (first_no (field_questions trace)))
 
 -- number, index and count of each case
-abbrev pub replay_number : Replayed → ℕ
-replay_number (Refused number) = number
-replay_number (Agree count) = 0
-replay_number (Differs index count) = 0
+abbrev pub replay_number : Result Replayed Refusal → ℕ
+replay_number (Ok found) = 0
+replay_number (Err refusal) = number_of_refusal refusal
 
-abbrev pub replay_index : Replayed → ℕ
-replay_index (Refused number) = 0
-replay_index (Agree count) = 0
-replay_index (Differs index count) = index
+abbrev pub replay_index : Result Replayed Refusal → ℕ
+replay_index (Ok (Agree count)) = 0
+replay_index (Ok (Differs index count)) = index
+replay_index (Err refusal) = 0
 
-abbrev pub replay_count : Replayed → ℕ
-replay_count (Refused number) = 0
-replay_count (Agree count) = count
-replay_count (Differs index count) = count
+abbrev pub replay_count : Result Replayed Refusal → ℕ
+replay_count (Ok (Agree count)) = count
+replay_count (Ok (Differs index count)) = count
+replay_count (Err refusal) = 0
 
 -- as C gets it: number + 2^8 × index + 2^32 × count
-abbrev pub replay_result : Replayed → ℕ
+abbrev pub replay_result : Result Replayed Refusal → ℕ
 replay_result replay = replay_number replay + 256 * replay_index replay + 4_294_967_296 * replay_count replay

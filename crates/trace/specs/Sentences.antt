@@ -1,14 +1,15 @@
 -- The sentences of the data sheet on traces. They are proved in proofs/Theorems.antt (`traces_refused`, `traces_accepted`,
--- `walks_enough`), proofs/PassedOver.antt (`answers_passed_over`) and proofs/Replays.antt (`replays_refused`, `replays_answered`,
+-- `plays_packed`, `walks_enough`), proofs/PassedOver.antt (`answers_passed_over`) and proofs/Replays.antt (`replays_refused`, `replays_answered`,
 -- `replays_packed`).
-use Rattle.std.specs.Prelude.{ℕ, ◌+◌, ◌*◌, ◌/◌, ◌%◌, ◌<◌, Bool, true, false, cond, List, [], ◌∷◌, ◌++◌, ◌⊎◌, ◌≡◌, eqb, length, take}
-use Rattle.analog.specs.Answers.{first_no, all_met}
+use Rattle.std.specs.Prelude.{ℕ, ◌+◌, ◌*◌, ◌/◌, ◌%◌, ◌<◌, Bool, true, false, cond, List, [], ◌∷◌, ◌++◌, ◌⊎◌, ◌≡◌, eqb, length, take, Ok, Err}
+use Rattle.analog.specs.Answers.{number_of_refusal, first_no, all_met, asked, packed}
+use Rattle.analog.specs.declared.Refusal.{Refusal}
 use Rattle.pmc330_model.specs.Logbook.{logbook_of, logbook_answers, logged_answer}
 use Rattle.trace.specs.Grammar.{is_call_tag, is_answer_tag}
 use Rattle.trace.specs.Fields.{Field, bytes_of_fields, range_of, first_field, after_field, damaged, whole, in_front, is_later_field, fields_in, fields_of, later_fields, fields_after, call_fields, answer_fields, call_in, calls_among, calls_of, without_answers}
-use Rattle.trace.specs.Play.{field_questions, trace_questions, in_buffer, played_result, played_buffer}
+use Rattle.trace.specs.Play.{field_questions, trace_questions, in_buffer, played, played_result, played_buffer}
 use Rattle.trace.specs.Replay.{is_equal, replayed, replay_number, replay_index, replay_count, replay_result}
-use Rattle.trace.specs.declared.Replayed.TheVariants.{Refused, Agree, Differs}
+use Rattle.trace.specs.declared.Replayed.TheVariants.{Agree, Differs}
 
 -- Sentence 1, of a trace: where 18, 19, 26 or 20 meets a no, the result is the number of the first no, with no call answered,
 -- and it "leaves the answer buffer unchanged"
@@ -56,10 +57,19 @@ pub record PassedOver (trace buffer : List ℕ) : Type 0 where
 abbrev pub EveryPassedOver : Type 0
 EveryPassedOver = (trace buffer : List ℕ) → all_met (field_questions trace) ≡ true → PassedOver trace buffer
 
--- 02, A6, a replay: where 18, 19 or 26 meets a no, it is refused with the number of the first no
+-- The player's answer and its result as one number say the same: "256 × calls answered + number"
+abbrev pub EveryPackedPlay : Type 0
+EveryPackedPlay = (trace : List ℕ) (room : ℕ) → packed (played trace room) ≡ played_result trace room
+
+-- 02, A6, a replay: where 18, 19 or 26 meets a no, it is refused by the first that does, with its number
+pub record RefusedReplay (trace : List ℕ) : Type 0 where
+  pub refusal : Refusal
+  pub first : asked (field_questions trace) ≡ Err refusal
+  pub result : replayed trace ≡ Err refusal
+  pub number : number_of_refusal refusal ≡ first_no (field_questions trace)
+
 abbrev pub EveryRefusedReplay : Type 0
-EveryRefusedReplay =
-    (trace : List ℕ) → all_met (field_questions trace) ≡ false → replayed trace ≡ Refused (first_no (field_questions trace))
+EveryRefusedReplay = (trace : List ℕ) → all_met (field_questions trace) ≡ false → RefusedReplay trace
 
 -- a call of a trace that has an answer recorded, by the fields around it
 pub record RecordedCall (fields : List Field) : Type 0 where
@@ -97,25 +107,26 @@ pub record FirstDiffers (range : ℕ) (fields : List Field) : Type 0 where
 pub record AnsweredReplay (trace : List ℕ) : Type 0 where
   pub either : AllAgree (range_of trace) (fields_after trace) ⊎ FirstDiffers (range_of trace) (fields_after trace)
   pub agree :
-      AllAgree (range_of trace) (fields_after trace) → replayed trace ≡ Agree (length (answer_fields (fields_after trace)))
+      AllAgree (range_of trace) (fields_after trace) → replayed trace ≡ Ok (Agree (length (answer_fields (fields_after trace))))
   pub differs :
       (first : FirstDiffers (range_of trace) (fields_after trace))
-      → replayed trace ≡ Differs (index_of first.recorded) (count_to first.recorded)
+      → replayed trace ≡ Ok (Differs (index_of first.recorded) (count_to first.recorded))
 
 abbrev pub EveryReplay : Type 0
 EveryReplay = (trace : List ℕ) → all_met (field_questions trace) ≡ true → AnsweredReplay trace
 
 -- number, index and count can be read back from the one number that C gets, and say which case it is: refused where the number
--- is not 0; else "index 0 where all agree"
+-- is not 0, by the one refusal that has it; else "index 0 where all agree"
 pub record PackedReplay (trace : List ℕ) : Type 0 where
   pub number : replay_result (replayed trace) % 256 ≡ replay_number (replayed trace)
   pub index : replay_result (replayed trace) / 256 % 16_777_216 ≡ replay_index (replayed trace)
   pub count : replay_result (replayed trace) / 4_294_967_296 ≡ replay_count (replayed trace)
-  pub which :
-      replayed trace
-      ≡ cond (eqb (replay_number (replayed trace)) 0)
-      (cond (eqb (replay_index (replayed trace)) 0) (Agree (replay_count (replayed trace))) (Differs (replay_index (replayed trace)) (replay_count (replayed trace))))
-      (Refused (replay_number (replayed trace)))
+  pub numbered : 0 < replay_number (replayed trace) → (refusal : Refusal) × (replay_number (replayed trace) ≡ number_of_refusal refusal)
+  pub refused : (refusal : Refusal) → replay_number (replayed trace) ≡ number_of_refusal refusal → replayed trace ≡ Err refusal
+  pub found :
+      replay_number (replayed trace) ≡ 0
+      → replayed trace
+      ≡ Ok (cond (eqb (replay_index (replayed trace)) 0) (Agree (replay_count (replayed trace))) (Differs (replay_index (replayed trace)) (replay_count (replayed trace))))
 
 abbrev pub EveryPackedReplay : Type 0
 EveryPackedReplay = (trace : List ℕ) → PackedReplay trace

@@ -2,10 +2,10 @@
 use mathlib.Core.List.{List, [], ◌∷◌}
 use mathlib.Core.Path.{◌≡◌, refl}
 use Prim.Native.Nat.{ℕ}
-use Rattle.analog.specs.Answers.{all_met, first_no, answered}
+use Rattle.analog.specs.Answers.{all_met, asked, answered}
 use Rattle.analog.specs.Sums.{sum_of}
-use Rattle.analog.specs.declared.Answer.TheVariants.{Accepted}
 use Rattle.window.specs.Window.{sums_after, window_answer, window_output}
+use Rattle.std.specs.Prelude.{Ok}
 
 abbrev ten : List ℕ
 ten = 1 ∷ 2 ∷ 3 ∷ 4 ∷ 5 ∷ 6 ∷ 7 ∷ 8 ∷ 9 ∷ 10 ∷ []
@@ -14,6 +14,6 @@ ten_sums : window_output 8 ten ten ≡ 1 ∷ 3 ∷ 6 ∷ 10 ∷ 15 ∷ 21 ∷ 28
 unfolding window_output all_met sums_after sum_of
 ten_sums = refl
 
-ten_count : window_answer 8 ten ten ≡ Accepted 8
-unfolding window_answer first_no answered
+ten_count : window_answer 8 ten ten ≡ Ok 8
+unfolding window_answer asked answered
 ten_count = refl

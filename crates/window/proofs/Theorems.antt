@@ -33,11 +33,11 @@ windows_answered n codes output =
     let questions = window_questions n codes output in
     let held = held_after n (length codes) in
     record {
-      answer = answered_by questions held refl;
+      answer = answered_by questions held;
       refused = λ unmet. rw unmet;
       sums = λ met k h. rw met (sum_at n codes (length codes) k (drop (length codes) output) h);
       beyond = beyond_stays n codes output (all_met questions);
       size = size_stays n codes output (is_length n) (leb (length codes) (length output)) refl refl;
       holds = held_is n codes;
-      count = λ met. ap value_of (accepted_is questions held refl met);
+      count = λ met. ap value_of (accepted_is questions held met);
     }

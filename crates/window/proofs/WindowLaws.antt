@@ -1,19 +1,19 @@
 -- Sums of a window, by the sums of the first codes of a run: one law for every length.
-use mathlib.Core.Bool.{Bool, true, false, cond, ◌||◌, false≢true}
+use mathlib.Core.Bool.{Bool, true, false, cond}
 use mathlib.Core.List.{List, [], ◌∷◌, ◌++◌, append_assoc}
 use mathlib.Core.Logic.{◌⊎◌, inl, inr}
 use mathlib.Core.Path.{◌≡◌, refl, sym, ap, ap₂, subst, ◌∙◌}
 use Prim.Native.Nat.{ℕ, zero, suc, ◌+◌, ◌-◌, ◌*◌, ◌≤◌, ◌<◌}
 use native.Mathlib.Nat.{add-zero, add-suc, not-suc-le-zero}
 use native.Mathlib.Omega.{arith}
-use lib.Dec.{eqb, leb}
-use borrow.Author.Tests.{leb-true, leb-false, eqb-true}
-use lib.ListN.{length, get_or, take, drop, set, length-append, length-drop, length-set}
+use lib.Dec.{leb}
+use borrow.Author.Tests.{leb-true, leb-false}
+use lib.ListN.{length, get_or, take, drop, set, length-append, length-drop}
 use lib.Seq.{append_snoc, drop-append-add, drop-cons, drop-drop, get_or_at, get_or-drop, set_at, take-take, length-take-le}
 use Rattle.analog.specs.Sums.{sum_of}
 use Rattle.analog.proofs.Integers.{lt_or_le}
 use Rattle.window.specs.Machine.{Filled}
-use Rattle.window.specs.Window.{window_after, sums_after, held_after, is_length}
+use Rattle.window.specs.Window.{window_after, sums_after, held_after}
 
 -- ---- the sum of a window, one code later
 
@@ -100,18 +100,17 @@ length_sums n codes (suc k) =
 -- the sums after the first codes, in front of what the output held
 pub record Summing (n : ℕ) (codes first out : List ℕ) (sum at : ℕ) : Type 0 where
   pub within : at ≤ length codes
-  pub size : length out ≡ length first
   pub total : sum ≡ sum_of (window_after n codes at)
   pub holds : out ≡ sums_after n codes at ++ drop at first
 
 module _ (n : ℕ) (codes first : List ℕ) where
   pub summing_start : Summing n codes first first 0 0
   unfolding sum_of sums_after
-  summing_start = record { within = omega arith; size = refl; total = omega (arith, left_and_held n codes 0 (omega arith)); holds = refl }
+  summing_start = record { within = omega arith; total = omega (arith, left_and_held n codes 0 (omega arith)); holds = refl }
 
   -- and from a window that has filled
   pub summing_from : (sum : ℕ) → Filled n codes sum first → Summing n codes first first sum n
-  summing_from sum f = record { within = f.within; size = refl; total = f.total; holds = f.holds }
+  summing_from sum f = record { within = f.within; total = f.total; holds = f.holds }
 
   pub summing_turn :
       (out : List ℕ) (sum at next : ℕ) → length codes ≤ length first → at < length codes
@@ -123,7 +122,6 @@ module _ (n : ℕ) (codes first : List ℕ) where
       let rest = drop (suc at) first in
       record {
         within = omega arith;
-        size = length-set out at next ∙ s.size;
         total = e;
         holds =
             ap (λ (l : List ℕ). set l at next) (s.holds ∙ ap (λ (l : List ℕ). sums ++ l) (drop-cons first at 0 (omega arith)))
@@ -131,12 +129,6 @@ module _ (n : ℕ) (codes first : List ℕ) where
             ∙ sym (append_snoc sums next rest)
             ∙ ap (λ (last : ℕ). sums ++ (last ∷ []) ++ rest) e;
       }
-
-  pub summing_end :
-      (out : List ℕ) (sum at end : ℕ) → at ≡ end → Summing n codes first out sum at
-      → (sum ≡ sum_of (window_after n codes end)) × (out ≡ sums_after n codes end ++ drop end first)
-  summing_end out sum at end last s =
-      (s.total ∙ ap (λ (k : ℕ). sum_of (window_after n codes k)) last, s.holds ∙ ap (λ (k : ℕ). sums_after n codes k ++ drop k first) last)
 
 -- ---- the output
 
@@ -209,49 +201,25 @@ sums_held n codes = go (leb n (length codes)) refl
         let fewer = leb-false n (length codes) e in
         sums_filling (length codes) n codes (length codes) (omega arith) (omega (arith, fewer)) (omega arith)
 
--- question 21 leaves lengths of at most 32
-length_most : (n : ℕ) → is_length n ≡ true → n ≤ 32
-length_most n e = go (eqb n 8) (eqb n 16) (eqb n 32) refl refl refl e
+-- the window of a run holds no more codes than the run has
+held_within : (n count : ℕ) → held_after n count ≤ count
+held_within n count = go (leb n count) refl
   where
-    go : (a b c : Bool) → eqb n 8 ≡ a → eqb n 16 ≡ b → eqb n 32 ≡ c → (a || b || c) ≡ true → n ≤ 32
-    go true b c p q r e = omega (arith, eqb-true n 8 p)
-    go false true c p q r e = omega (arith, eqb-true n 16 q)
-    go false false true p q r e = omega (arith, eqb-true n 32 r)
-    go false false false p q r e = absurd (false≢true e)
+    go : (full : Bool) → leb n count ≡ full → cond full n count ≤ count
+    go true e = leb-true n count e
+    go false e = omega arith
 
--- and so does how many codes the window of a run holds
-pub held_most : (n count held : ℕ) → is_length n ≡ true → held ≡ held_after n count → (held ≤ 32) × (held ≤ count)
-held_most n count held valid e = go (leb n count) refl e
-  where
-    go : (full : Bool) → leb n count ≡ full → held ≡ cond full n count → (held ≤ 32) × (held ≤ count)
-    go true f e = (omega (arith, e, length_most n valid), omega (arith, e, leb-true n count f))
-    go false f e = (omega (arith, e, length_most n valid, leb-false n count f), omega (arith, e))
-
--- what the window leaves when it has filled, and when it has slid to the end
-pub filled_is :
-    (full : ℕ) (codes : List ℕ) (sum : ℕ) (first out : List ℕ) → (full ≤ 32) × (full ≤ length codes) → length codes ≤ length first
-    → sum ≡ sum_of (window_after full codes full) → out ≡ sums_after full codes full ++ drop full first
-    → Filled full codes sum out
-filled_is full codes sum first out most room total e =
-    let sums = sums_after full codes full in
-    record {
-      most = most.0;
-      within = most.1;
-      room = omega (arith, ap length e, sums_size full codes full first (omega (arith, most.1)));
-      total = total;
-      holds = e ∙ ap (λ (l : List ℕ). sums ++ l) (sym (ap (drop full) e ∙ past_drop full codes full full first (omega arith)));
-    }
-
+-- what the window leaves when it has filled and then slid to the end
 pub slid_is :
-    (n full : ℕ) (codes first filled out : List ℕ) → full ≡ held_after n (length codes) → full ≤ length codes
+    (n full : ℕ) (codes first filled out : List ℕ) → full ≡ held_after n (length codes)
     → filled ≡ sums_after full codes full ++ drop full first → out ≡ sums_after full codes (length codes) ++ drop (length codes) filled
     → out ≡ sums_after n codes (length codes) ++ drop (length codes) first
-slid_is n full codes first filled out held within f e =
+slid_is n full codes first filled out held f e =
     e
     ∙ ap₂
     (λ (sums rest : List ℕ). sums ++ rest)
     (ap (λ (m : ℕ). sums_after m codes (length codes)) held ∙ sums_held n codes)
-    (ap (drop (length codes)) f ∙ past_drop full codes full (length codes) first within)
+    (ap (drop (length codes)) f ∙ past_drop full codes full (length codes) first (omega (arith, held, held_within n (length codes))))
 
 -- places past the sums
 pub past_sums :

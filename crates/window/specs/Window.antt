@@ -1,8 +1,8 @@
 -- Document 02, A1, "Running average": the sums of a window over a run of straight codes.
 use Rattle.std.specs.Prelude.{ℕ, zero, suc, ◌-◌, Bool, cond, ◌||◌, List, [], ◌∷◌, ◌++◌, eqb, leb, length, take, drop}
-use Rattle.analog.specs.Answers.{Question, question, all_met, answered}
+use Rattle.analog.specs.Answers.{Question, question, all_met, answered, Answer}
 use Rattle.analog.specs.Sums.{sum_of}
-use Rattle.analog.specs.declared.Answer.{Answer}
+use Rattle.analog.specs.declared.Refusal.TheVariants.{BadWindow, ShortBuffer}
 
 -- "the last N" of a list; all of it where it has fewer
 abbrev pub last_of : (n : ℕ) (codes : List ℕ) → List ℕ
@@ -27,8 +27,8 @@ is_length n = eqb n 8 || eqb n 16 || eqb n 32
 -- "Checks: 21, a window length other than 8, 16 or 32, looked at first; an output shorter than the run is 20, looked at next."
 abbrev pub window_questions : (n : ℕ) (codes output : List ℕ) → List Question
 window_questions n codes output =
-    question 21 (is_length n)
-    ∷ question 20 (leb (length codes) (length output))
+    question BadWindow (is_length n)
+    ∷ question ShortBuffer (leb (length codes) (length output))
     ∷ []
 
 -- "the count after the last code is returned"

@@ -2,7 +2,7 @@
 use Rattle.std.proofs.Common.{length, sym, ◌∙◌, le-leb}
 use Rattle.analog.specs.Answers.{all_met}
 use Rattle.window.specs.Window.{window_output}
-use Rattle.window.proofs.WindowLaws.{held_most, slid_is}
+use Rattle.window.proofs.WindowLaws.{slid_is}
 use Rattle.window.proofs.window_sums.Goals as goal
 
 pub returns-clause-output : goal.returns-clause-output
@@ -10,5 +10,4 @@ unfolding window_output all_met
 returns-clause-output c =
     let valid = sym c.is_length.ensures ∙ c.if-not-is_length.false in
     let room = le-leb (length c.args.codes.now) (length c.args.sums.now) c.if-sums-codes.false in
-    let within = (held_most _ _ _ valid c.held-count.ensures).1 in
-    rw (valid, room) (slid_is _ _ _ _ _ _ c.held-count.ensures within c.fill-filled.ensures.output c.slide.ensures)
+    rw (valid, room) (slid_is _ _ _ _ _ _ c.held-count.ensures c.fill-filled.ensures.output c.slide.ensures)

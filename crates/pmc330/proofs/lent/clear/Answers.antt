@@ -1,34 +1,28 @@
 -- Refused by 22, or the slot's count is 0.
-use mathlib.Core.Path.{◌≡◌, refl, sym, ap, ◌∙◌}
-use Prim.Native.Nat.{ℕ}
-use native.Mathlib.Nat.{mod-eq_of_lt}
+use mathlib.Core.Path.{refl, sym, ap, ◌∙◌}
 use native.Mathlib.Omega.{arith}
-use lib.ListN.{set}
-use Rattle.analog.specs.Answers.{first_no}
+use Rattle.std.proofs.lemmas.Result.{err_from_is_err_and}
+use Rattle.std.specs.Prelude.{Err}
 use Rattle.pmc330_model.specs.Board.{after_call, value_of_call}
 use Rattle.pmc330_model.specs.Calls.{clear}
 use Rattle.pmc330_model.specs.Lent.{board_in}
-use Rattle.pmc330_model.specs.Questions.{call_questions, slot_questions}
-use Rattle.pmc330_model.proofs.Replies.{refused_reply, accepted_reply}
+use Rattle.pmc330_model.specs.Questions.{call_questions}
 use Rattle.pmc330.proofs.QuestionLaws.{slot_low}
-use Rattle.pmc330.proofs.LentLaws.{replied}
+use Rattle.pmc330.proofs.LentLaws.{refused, accepted}
 use Rattle.pmc330.proofs.lent.clear.Goals as goal
 
-pub returns-then-number-ne0 : goal.returns-then-number-ne0
+pub returns-in_err-of_slot : goal.returns-in_err-of_slot
 unfolding call_questions
-returns-then-number-ne0 c = λ words inputs gains codes.
+returns-in_err-of_slot c = λ words inputs gains codes.
     let a = c.args in
-    replied _ _ _
-    (refused_reply (board_in words inputs gains codes a.unread.now) (clear a.slot) c.slot_number-number.result
-    c.slot_number-number.ensures
-    c.if-number-ne0.true)
+    let p = err_from_is_err_and c.from_residual.result c.from_residual.ensures.1 in
+    refused (board_in words inputs gains codes a.unread.now) (clear a.slot) (p.1 ∙ ap Err p.2) (sym c.in_err-of_slot.ensures)
+
+pub bounds-unread-at : goal.bounds-unread-at
+bounds-unread-at c = omega (arith, slot_low c.args.slot (sym c.in_ok-of_slot.ensures))
 
 pub returns : goal.returns
 unfolding call_questions after_call value_of_call
 returns c = λ words inputs gains codes.
     let a = c.args in
-    let none : first_no (slot_questions a.slot) ≡ 0 = sym c.slot_number-number.ensures ∙ c.if-number-ne0.false in
-    replied _ _ _
-    (accepted_reply (board_in words inputs gains codes a.unread.now) (clear a.slot) _ _ none
-    (ap (λ (n : ℕ). board_in words inputs gains codes (set a.unread.now n 0)) (mod-eq_of_lt (omega (arith, slot_low a.slot none))))
-    refl)
+    accepted (board_in words inputs gains codes a.unread.now) (clear a.slot) _ _ (sym c.in_ok-of_slot.ensures) refl refl

@@ -2,7 +2,7 @@
 use mathlib.Core.List.{[]}
 use mathlib.Core.Path.{refl}
 use native.Mathlib.Omega.{arith}
-use Rattle.analog.specs.Answers.{first_no}
+use Rattle.analog.specs.Answers.{asked}
 use Rattle.pmc330_model.specs.Board.{cleared_board, after_call, value_of_call}
 use Rattle.pmc330_model.specs.Calls.{reset}
 use Rattle.pmc330_model.specs.Questions.{call_questions}
@@ -12,7 +12,7 @@ use Rattle.pmc330.proofs.LentLaws.{accepted_in_place}
 use Rattle.pmc330.proofs.lent.reset.Goals as goal
 
 pub returns : goal.returns
-unfolding call_questions first_no after_call value_of_call
+unfolding call_questions asked after_call value_of_call
 returns c =
     let a = c.args in
     let next = core_of (cleared_board (core_in a.words.now).range []) in

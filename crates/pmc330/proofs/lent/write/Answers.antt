@@ -1,49 +1,102 @@
--- The number and the board are the definition's.
-use mathlib.Core.List.{[]}
-use mathlib.Core.Path.{refl, sym, ◌∙◌}
+-- The questions and the board are the definition's.
+use mathlib.Core.Bool.{not}
+use mathlib.Core.List.{List, [], ◌∷◌}
+use mathlib.Core.Path.{◌≡◌, refl, sym, ap, ◌∙◌}
+use Prim.Native.Nat.{◌^◌}
 use native.Mathlib.Omega.{arith}
-use Rattle.pmc330_model.specs.Board.{value_of_call}
+use lib.Dec.{ltb}
+use Rattle.std.proofs.lemmas.Result.{err_from_is_err_and}
+use Rattle.std.specs.Prelude.{Err, Result, ⊤}
+use Rattle.analog.specs.Answers.{Question, question, asked}
+use Rattle.analog.specs.declared.Refusal.{Refusal}
+use Rattle.analog.specs.declared.Refusal.TheVariants.{BadValue}
+use Rattle.pmc330_model.specs.Board.{questions_of, value_of_call}
 use Rattle.pmc330_model.specs.Calls.{write}
-use Rattle.pmc330.specs.Steps.{board_with}
+use Rattle.pmc330_model.specs.Questions.{word_questions}
+use Rattle.pmc330_model.specs.Words.{held_word, written_word}
+use Rattle.pmc330_model.specs.declared.Board.{Board}
+use Rattle.pmc330.specs.Steps.{board_with, core_in}
+use Rattle.pmc330.specs.Widths.{bits_of}
 use Rattle.pmc330.proofs.HeldLaws.{Narrow}
-use Rattle.pmc330.proofs.AccessLaws.{write_number_is, write_board_is}
+use Rattle.pmc330.proofs.AccessLaws.{write_refused, write_asked, write_board}
+use Rattle.pmc330.proofs.QuestionLaws.{and_then}
 use Rattle.pmc330.proofs.LentLaws.{refused_in_place, accepted_in_place}
 use Rattle.pmc330.proofs.lent.write.Goals as goal
+use Rattle.pmc330.proofs.lent.write.Goals.{After-with_word-resulting}
 
-pub returns-then-number-ne0 : goal.returns-then-number-ne0
-returns-then-number-ne0 c =
-    let resulting = c.with_word-resulting in
-    let word = c.written_word-word in
-    let old = c.held_word-old in
-    let core = c.core_of-core in
-    let class = c.class_at-class in
+pub returns-in_err-access : goal.returns-in_err-access
+returns-in_err-access c =
     let a = c.args in
-    let b = board_with core.result a.inputs.now a.gains.now a.codes.now a.unread.now in
+    let p = err_from_is_err_and c.from_residual.result c.from_residual.ensures.1 in
+    let b = board_with (core_in a.words.now) a.inputs.now a.gains.now a.codes.now a.unread.now in
     let r =
-    refused_in_place a.words.now a.inputs.now a.gains.now a.codes.now a.unread.now (write a.width a.offset a.value) core.result core.ensures c.write_number-number.result
-    (c.write_number-number.ensures
-    ∙ write_number_is b a.width a.offset class.result class.ensures a.value old.result word.result resulting.result old.ensures word.ensures.0 word.ensures.1 resulting.ensures)
-    c.if-number-ne0.true in
+    refused_in_place a.words.now a.inputs.now a.gains.now a.codes.now a.unread.now (write a.width a.offset a.value) (core_in a.words.now) refl
+    (p.1 ∙ ap Err p.2)
+    (write_refused b a.width a.offset a.value c.in_err-access.ensures) in
+    record { answer = r.0; board = r.1.0; words = r.1.1 }
+
+-- the board that the words hold, and its questions after those of the access
+abbrev board : After-with_word-resulting → Board
+board c = board_with c.from-core.result c.args.inputs.now c.args.gains.now c.args.codes.now c.args.unread.now
+
+word_is :
+    (c : After-with_word-resulting)
+    → c.written_word-word.result
+    ≡ written_word (bits_of c.in_ok-access.access.width) c.args.offset c.args.value (held_word c.from-core.result.registers c.args.gains.now c.in_ok-access.access.register)
+word_is c =
+    c.written_word-word.ensures.0
+    ∙ ap (written_word (bits_of c.in_ok-access.access.width) c.args.offset c.args.value) c.held_word-old.ensures
+
+abbrev later : After-with_word-resulting → List Question
+later c =
+    let core = c.from-core.result in
+    word_questions core.registers (not core.cycle.running) c.in_ok-access.access.register c.written_word-word.result c.with_word-resulting.result
+
+questions_left :
+    (c : After-with_word-resulting) {result : Result ⊤ Refusal}
+    → result ≡ asked (question BadValue (ltb c.args.value (2 ^ bits_of c.in_ok-access.access.width)) ∷ [])
+    → asked (questions_of (board c) (write c.args.width c.args.offset c.args.value)) ≡ and_then result (later c)
+questions_left c told =
+    write_asked (board c) c.args.width c.args.offset c.in_ok-access.access c.in_ok-access.ensures c.args.value _ (word_is c) _ c.with_word-resulting.ensures
+    ∙ ap (λ (result : Result ⊤ Refusal). and_then result (later c)) (sym told)
+
+pub returns-in_err-of_value : goal.returns-in_err-of_value
+returns-in_err-of_value c =
+    let a = c.args in
+    let core = c.from-core in
+    let p = err_from_is_err_and c.from_residual-in_err-of_value.result c.from_residual-in_err-of_value.ensures.1 in
+    let left = questions_left (goal.at.returns-in_err-of_value c).After-with_word-resulting c.in_err-of_value.ensures in
+    let r =
+    refused_in_place a.words.now a.inputs.now a.gains.now a.codes.now a.unread.now (write a.width a.offset a.value) core.result core.ensures
+    (p.1 ∙ ap Err p.2)
+    left in
+    record { answer = r.0; board = r.1.0; words = r.1.1 }
+
+pub returns-in_err-of_word : goal.returns-in_err-of_word
+returns-in_err-of_word c =
+    let a = c.args in
+    let core = c.from-core in
+    let p = err_from_is_err_and c.from_residual-in_err-of_word.result c.from_residual-in_err-of_word.ensures.1 in
+    let left = questions_left (goal.at.returns-in_err-of_word c).After-with_word-resulting c.in_ok-of_value.ensures in
+    let r =
+    refused_in_place a.words.now a.inputs.now a.gains.now a.codes.now a.unread.now (write a.width a.offset a.value) core.result core.ensures
+    (p.1 ∙ ap Err p.2)
+    (left ∙ sym c.in_err-of_word.ensures) in
     record { answer = r.0; board = r.1.0; words = r.1.1 }
 
 pub returns : goal.returns
 unfolding value_of_call
 returns c =
-    let next = c.after_write-next in
-    let resulting = c.with_word-resulting in
-    let word = c.written_word-word in
-    let old = c.held_word-old in
-    let core = c.core_of-core in
-    let class = c.class_at-class in
     let a = c.args in
-    let b = board_with core.result a.inputs.now a.gains.now a.codes.now a.unread.now in
-    let number = write_number_is b a.width a.offset class.result class.ensures a.value old.result word.result resulting.result old.ensures word.ensures.0 word.ensures.1 resulting.ensures in
+    let core = c.from-core in
+    let next = c.after_write-next in
+    let access = c.in_ok-access in
+    let at = (goal.at.returns c).After-with_word-resulting in
     let narrow : Narrow (board_with next.result [] [] [] []) = omega (arith, next.type_inv) in
     let r =
     accepted_in_place a.words.now a.inputs.now a.gains.now a.codes.now a.unread.now (write a.width a.offset a.value) core.result core.ensures next.result _ _ _ _ _ 0 narrow
-    (sym number ∙ sym c.write_number-number.ensures ∙ c.if-number-ne0.false)
-    (next.ensures a.codes.now
-    ∙ write_board_is b a.width a.offset class.result class.ensures a.value old.result word.result resulting.result old.ensures word.ensures.0 word.ensures.1 resulting.ensures)
+    (questions_left at c.in_ok-of_value.ensures ∙ sym c.in_ok-of_word.ensures)
+    (next.ensures a.codes.now ∙ write_board (board at) a.width a.offset access.access access.ensures a.value _ (word_is at))
     refl
-    c.words_of.ensures in
+    c.into.ensures in
     record { answer = r.0; board = r.1.0; words = r.1.1 }

@@ -7,12 +7,12 @@ pub returns-then-is_burst : goal.returns-then-is_burst
 returns-then-is_burst c =
     let a = c.args in
     λ codes.
-    started_burst a.core a.inputs.now a.gains.now codes a.unread.now _ c.fresh_cycle-cycle.ensures _ c.begun.ensures
+    started_burst a.core a.channels.inputs.now a.channels.gains.now codes a.unread.now _ c.fresh_cycle.ensures _ c.begun.ensures
     (sym c.is_burst.ensures ∙ c.if-is_burst.true)
 
 pub returns : goal.returns
 returns c =
     let a = c.args in
     λ codes.
-    started_plain a.core a.inputs.now a.gains.now codes a.unread.now _ c.fresh_cycle-cycle.ensures
+    started_plain a.core a.channels.inputs.now a.channels.gains.now codes a.unread.now _ c.fresh_cycle.ensures
     (sym c.is_burst.ensures ∙ c.if-is_burst.false)

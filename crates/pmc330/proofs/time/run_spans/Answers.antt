@@ -1,12 +1,12 @@
 -- The loop's invariant is that what is left, from the board as it now is, ends where the whole run does.
 use mathlib.Core.Bool.{Bool, ◌&&◌}
-use mathlib.Core.Path.{◌≡◌, sym, ap, subst, ◌∙◌}
+use mathlib.Core.Path.{◌≡◌, sym, ap, ◌∙◌}
 use Prim.Native.Nat.{ℕ, ◌%◌, ◌≤◌, ◌<◌}
 use native.Mathlib.Omega.{arith}
 use lib.Dec.{eqb}
 use Rattle.pmc330_model.specs.Board.{advanced, stores_in}
 use Rattle.pmc330_model.specs.declared.Board.{Board}
-use Rattle.pmc330.specs.Steps.{board_with, turned_core, SameCore}
+use Rattle.pmc330.specs.Steps.{board_on, turned_core}
 use Rattle.pmc330.specs.declared.held.Core.{Core}
 use Rattle.pmc330.proofs.SpanLaws.{going_as, SpanTurn, span_turn}
 use Rattle.pmc330.proofs.TurnLaws.{turned, came_back}
@@ -16,10 +16,10 @@ use Rattle.pmc330.proofs.time.run_spans.Goals.{In-loop-left, After-part_of-part,
 -- one turn of the loop
 module _ (c : After-times_more-more) where
   abbrev first : Board
-  first = board_with c.args.core c.args.inputs.now c.args.gains.now c.args.codes.now c.args.unread.now
+  first = board_on c.args.core c.args.channels c.args.boxes.now
 
   abbrev now : Board
-  now = board_with c.loop-left.before c.args.inputs.now c.args.gains.now c.loop-left.codes c.loop-left.unread
+  now = board_on c.loop-left.before c.args.channels c.loop-left.boxes
 
   -- the part that a turn runs is at most what is left, and not 0
   part_most : c.part_of-part.result ≤ c.loop-left.left
@@ -27,37 +27,36 @@ module _ (c : After-times_more-more) where
 
   part_some : 0 < c.part_of-part.result
   part_some =
-      let ticks : 0 < c.args.ticks = omega (arith, c.loop-left-test.true, c.loop-left.invariant.most) in
+      let ticks : 0 < c.args.ticks = omega (arith, c.loop-left-test.true, c.loop-left.invariant.0.most) in
       c.part_of-part.ensures.some c.loop-left-test.true (c.requires.0 ticks)
 
   abbrev turn : Bool
   turn = c.has_turned-turn.result
 
   abbrev over : Core → Board
-  over core = board_with core c.args.inputs.now c.args.gains.now c.run_any-run.new.codes c.run_any-run.new.unread
+  over core = board_on core c.args.channels c.run_any-run.new.boxes
 
   abbrev next : Board
   next = over c.run_any-run.result.core
 
   the_turn : SpanTurn c.args.ticks c.loop-left.left c.loop-left.made c.part_of-part.result c.times_more-more.result c.run_any-run.result.stores first (turned (turn && eqb (c.times_more-more.result % 2) 1) next)
   the_turn =
-      span_turn c.args.ticks c.loop-left.left c.loop-left.made c.part_of-part.result first now c.loop-left.invariant
+      span_turn c.args.ticks c.loop-left.left c.loop-left.made c.part_of-part.result first now c.loop-left.invariant.0
       part_most
       c.run_any-run.result.stores
       c.times_more-more.result
       turn
-      c.same_moving-same.result
+      c.is_as_before-same.result
       next
       c.run_any-run.ensures.run.board
       c.run_any-run.ensures.run.count
       c.times_more-more.ensures
       (λ e. c.requires.1 (c.has_turned-turn.ensures e))
       (λ e.
-      let same = c.same_moving-same.ensures e in
-      came_back c.part_of-part.result turn c.run_any-run.result.core c.loop-left.before c.args.inputs.now c.args.gains.now c.loop-left.codes c.run_any-run.new.codes c.loop-left.unread c.run_any-run.new.unread
-      c.run_any-run.ensures.run.board
+      let same = c.is_as_before-same.ensures e in
+      came_back turn c.run_any-run.result.core c.loop-left.before c.args.channels _ c.run_any-run.new.boxes
       (c.run_any-run.ensures.unchanged same.0)
-      (subst (SameCore c.run_any-run.result.core) c.turned_if.ensures same.1))
+      (same.1 ∙ c.turned_if.ensures))
 
 pub overflow_mul-made : goal.overflow_mul-made
 overflow_mul-made c =
@@ -79,11 +78,15 @@ loop-left-preserved c =
     let t = (goal.at.loop-left-preserved c).After-times_more-more in
     let last : c.turned_if-before.result ≡ turned_core (turn t && eqb (c.times_more-more.result % 2) 1) c.run_any-run.result.core =
     c.turned_if-before.ensures ∙ ap (λ (turn : Bool). turned_core turn c.run_any-run.result.core) c.is_turned.ensures in
-    going_as (ap (over t) (sym last)) (the_turn t).going
+    let before = t.loop-left.invariant.1 in
+    let loan = t.run_any-run.ensures.loan in (
+      going_as (ap (over t) (sym last)) (the_turn t).going,
+      record { codes = loan.codes ∙ before.codes; unread = loan.unread ∙ before.unread },
+    )
 
 -- the board after the loop
 abbrev last : After-loop-left → Board
-last c = board_with c.loop-left.before c.args.inputs.now c.args.gains.now c.loop-left.codes c.loop-left.unread
+last c = board_on c.loop-left.before c.args.channels c.loop-left.boxes
 
 pub returns : goal.returns
 unfolding advanced stores_in
@@ -91,6 +94,10 @@ returns c =
     let at = last (goal.at.returns c).After-loop-left in
     let over : c.loop-left.left ≡ 0 = omega (arith, c.loop-left-test.false) in
     record {
-      board = ap (λ (n : ℕ). advanced n at) (sym over) ∙ c.loop-left.invariant.board;
-      count = omega (arith, c.loop-left.invariant.count, ap (λ (n : ℕ). stores_in n at) over);
+      run =
+          record {
+            board = ap (λ (n : ℕ). advanced n at) (sym over) ∙ c.loop-left.invariant.0.board;
+            count = omega (arith, c.loop-left.invariant.0.count, ap (λ (n : ℕ). stores_in n at) over);
+          };
+      loan = c.loop-left.invariant.1;
     }

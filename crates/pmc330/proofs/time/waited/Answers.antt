@@ -22,6 +22,6 @@ returns c = λ inputs gains codes unread.
     let running = not-false a.core.cycle.running c.if-not-core.false in
     let untimed = sym (ap (λ (runs : Bool). runs && is_timed a.core.registers) running) ∙ c.requires in
     record {
-      board = ap (with_cycle b) c.elapsed_by-cycle.ensures ∙ sym (untimed_board a.ticks b running untimed);
+      board = ap (with_cycle b) c.elapsed_by.ensures ∙ sym (untimed_board a.ticks b running untimed);
       count = sym (untimed_stores a.ticks b running untimed);
     }

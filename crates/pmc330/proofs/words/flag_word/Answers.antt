@@ -1,21 +1,23 @@
--- Each turn joins one more bit.
-use Prim.Native.Nat.{◌+◌, ◌≤◌}
+-- The digits of a part of the list; past the end there are none.
+use borrow.Author.Tests.{lt-leb}
+use Rattle.std.proofs.Common.{rules}
+use mathlib.Core.Path.{ap, sym, ◌∙◌}
+use Prim.Native.Nat.{ℕ, ◌+◌, ◌-◌, ◌*◌}
 use native.Mathlib.Omega.{arith}
 use lib.Dec.{leb}
 use lib.ListN.{get_or}
-use Rattle.pmc330_model.specs.Words.{to_bit}
-use Rattle.pmc330.proofs.WordLaws.{joining_start, joining_turn}
+use borrow.Rule.Slice.PartMut.{mid_len}
+use Rattle.pmc330_model.specs.Words.{joined, to_bit}
+use Rattle.pmc330.proofs.WordLaws.{joined_part, joined_past}
 use Rattle.pmc330.proofs.words.flag_word.Goals as goal
-use Rattle.pmc330.proofs.words.flag_word.Goals.{After-bit}
 
--- a flag is a bit
-low : (c : After-bit) → to_bit (leb c.args.least (get_or c.args.unread.now (c.args.first + c.loop-i.i) 0)) ≤ 1
-low c = omega (arith, c.bit.ensures.0, c.bit.ensures.1)
+pub returns-then-first-ge32 : goal.returns-then-first-ge32
+returns-then-first-ge32 c = sym (joined_past 2 (λ n. to_bit (leb c.args.least n)) (16 * c.args.half) 16 c.args.unread.now (rw (lt-leb _ _ c.requires)) (omega arith))
 
-pub loop-i-init : goal.loop-i-init
-loop-i-init c = joining_start 2 1 _ 16
-
-pub loop-i-preserved : goal.loop-i-preserved
-loop-i-preserved c =
-    rw c.bit.ensures.0
-    (joining_turn 2 1 _ 16 (omega arith) _ _ _ c.loop-i-test.true (low (goal.at.loop-i-preserved c).After-bit) c.loop-i.invariant)
+pub returns : goal.returns
+returns c =
+    let first : ℕ = 16 * c.from-first.result in
+    let part = mid_len first (first + 16) c.args.unread.now (omega arith) in
+    c.joined.ensures (λ n. to_bit (leb c.args.least n)) (λ n m byte is. search rules)
+    ∙ joined_part 2 (λ n. to_bit (leb c.args.least n)) first (first + 16 - first) 16 c.args.unread.now (omega (arith, part)) (omega arith)
+    ∙ ap (λ (a : ℕ). joined 2 (λ (i : ℕ). to_bit (leb c.args.least (get_or c.args.unread.now (16 * a + i) 0))) 16) c.from-first.ensures

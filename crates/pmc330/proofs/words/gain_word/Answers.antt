@@ -1,34 +1,21 @@
--- Each turn joins one more gain. A gain is a byte, so the word stays within 255 × 4 ^ 8.
-use Prim.Native.Nat.{◌+◌, ◌*◌, ◌^◌, ◌≤◌}
+-- The digits of a part of the list; past the end there are none.
+use Rattle.std.proofs.Common.{rules}
+use mathlib.Core.Path.{refl, ap, sym, ◌∙◌}
+use Prim.Native.Nat.{ℕ, ◌+◌, ◌-◌, ◌*◌}
 use native.Mathlib.Omega.{arith}
 use lib.ListN.{get_or}
-use Rattle.pmc330.proofs.WordLaws.{joining_start, joining_turn, joining_weight, joining_fits}
+use borrow.Rule.Slice.PartMut.{mid_len}
+use Rattle.pmc330_model.specs.Words.{joined}
+use Rattle.pmc330.proofs.WordLaws.{joined_part, joined_past}
 use Rattle.pmc330.proofs.words.gain_word.Goals as goal
-use Rattle.pmc330.proofs.words.gain_word.Goals.{After-wide_byte}
 
--- a gain is a byte
-low : (c : After-wide_byte) → get_or c.args.gains.now (c.args.first + c.loop-i.i) 0 ≤ 255
-low c = omega (arith, c.wide_byte.ensures.0, c.wide_byte.ensures.1)
+pub returns-then-first-ge32 : goal.returns-then-first-ge32
+returns-then-first-ge32 c = sym (joined_past 4 (λ n. n) (8 * c.args.group) 8 c.args.gains.now (refl) (omega arith))
 
--- the word after the turn
-fits : (c : After-wide_byte) → c.loop-i.word + c.wide_byte.result * c.loop-i.weight ≤ 255 * 4 ^ 8
-fits c =
-    rw c.wide_byte.ensures.0
-    (joining_fits 4 255 _ 8 (omega arith) _ _ _ c.loop-i-test.true (low c) c.loop-i.invariant)
-
-pub loop-i-init : goal.loop-i-init
-loop-i-init c = joining_start 4 255 _ 8
-
-pub overflow_mul-word : goal.overflow_mul-word
-overflow_mul-word c = omega (arith, fits (goal.at.overflow_mul-word c).After-wide_byte)
-
-pub overflow_add-word : goal.overflow_add-word
-overflow_add-word c = omega (arith, fits (goal.at.overflow_add-word c).After-wide_byte)
-
-pub overflow_mul-weight : goal.overflow_mul-weight
-overflow_mul-weight c = omega (arith, joining_weight 4 255 _ 8 _ _ _ (omega arith) c.loop-i.invariant)
-
-pub loop-i-preserved : goal.loop-i-preserved
-loop-i-preserved c =
-    rw c.wide_byte.ensures.0
-    (joining_turn 4 255 _ 8 (omega arith) _ _ _ c.loop-i-test.true (low (goal.at.loop-i-preserved c).After-wide_byte) c.loop-i.invariant)
+pub returns : goal.returns
+returns c =
+    let first : ℕ = 8 * c.from-first.result in
+    let part = mid_len first (first + 8) c.args.gains.now (omega arith) in
+    c.joined.ensures (λ n. n) (λ n m byte is. search rules)
+    ∙ joined_part 4 (λ n. n) first (first + 8 - first) 8 c.args.gains.now (omega (arith, part)) (omega arith)
+    ∙ ap (λ (a : ℕ). joined 4 (λ (i : ℕ). get_or c.args.gains.now (8 * a + i) 0) 8) c.from-first.ensures

@@ -1,87 +1,69 @@
--- The loop's invariant: what is counted, with the fields that are left, is what the check finds.
-use mathlib.Core.Path.{◌≡◌, sym, ap, ap₂, ◌∙◌}
-use mathlib.Core.Bool.{Bool, true, cond}
-use Prim.Native.Nat.{ℕ, ◌+◌, ◌≤◌}
+-- Each turn counts its field, and the end finds what is counted.
+use mathlib.Core.Bool.{Bool, true, false, not, ◌&&◌, ◌||◌, cond}
+use mathlib.Core.Path.{◌≡◌, refl, sym, ap, ap₂, ◌∙◌}
+use Prim.Native.Nat.{ℕ, ◌+◌}
 use native.Mathlib.Omega.{arith}
-use lib.Dec.{eqb}
-use lib.ListN.{length, length-drop, get_or, drop}
-use borrow.Author.Tests.{eq-eqb, ne_eqb}
-use Rattle.pmc330_model.proofs.Cases.{and_left}
-use Rattle.trace.specs.Grammar.{length_of}
-use Rattle.trace.specs.Fields.{tag_of, fields_of, later_fields, is_later_field, is_whole}
+use mir.Val.{bool_byte}
+use lib.ListN.{length, length-drop}
+use Rattle.pmc330_model.specs.Words.{to_bit}
+use Rattle.trace.specs.Grammar.{is_call_tag, is_answer_tag}
+use Rattle.trace.specs.Fields.{size_of, fields_of}
 use Rattle.trace.specs.Machine.{walked}
-use Rattle.trace.specs.declared.fields.Checked.TheVariants.{Refused, Calls}
-use Rattle.trace.proofs.FieldLaws.{whole_at, whole_some, whole_size, no_field, walk_turn, walk_end}
+use Rattle.trace.specs.Stated.{byte_of}
+use Rattle.std.specs.Prelude.{Ok, Err}
+use Rattle.analog.specs.declared.Refusal.TheVariants.{StrayAnswer}
+use Rattle.trace.proofs.FieldLaws.{some_left, none_left, answer_or_call, bit_small, no_field, walk_turn, walk_end}
 use Rattle.trace.proofs.fields.check_later.Goals as goal
-use Rattle.trace.proofs.fields.check_later.Goals.{Else-not-is_later_field, After-size_at, After-loop-at}
+use Rattle.trace.proofs.fields.check_later.Goals.{then-strays, else-strays+then-not-is_call, else-strays+else-not-is_call}
 
--- a turn that has found a field
-field : (c : Else-not-is_later_field) → is_later_field (drop c.loop-at.at c.args.trace.now) ≡ true
-field c = sym c.is_later_field.ensures ∙ c.if-not-is_later_field.false
-
--- and has read its length
-module _ (c : After-size_at) where
-  later : is_later_field (drop c.loop-at.at c.args.trace.now) ≡ true
-  later = sym c.is_later_field.ensures ∙ c.if-not-is_later_field.false
-
-  -- the length that the field states is its tag's
-  stated : c.size_at.result ≡ length_of (get_or c.args.trace.now c.loop-at.at 0)
-  stated =
-      c.size_at.ensures
-      ∙ whole_size c.args.trace.now c.loop-at.at (and_left (is_whole (drop c.loop-at.at c.args.trace.now)) _ later)
-
-  ends : c.loop-at.at + 3 + c.size_at.result ≤ length c.args.trace.now
-  ends =
-      (whole_at c.args.trace.now c.loop-at.at c.size_at.result stated
-      (and_left (is_whole (drop c.loop-at.at c.args.trace.now)) _ later)).ends
+counted : (t : Bool) → bool_byte t ≡ to_bit t
+counted true = refl
+counted false = refl
 
 pub returns-then-not-is_later_field : goal.returns-then-not-is_later_field
 returns-then-not-is_later_field c =
-    let at = c.loop-at in
-    let trace = c.args.trace.now in
-    sym (ap (walked at.calls at.strays at.before) (no_field trace at.at c.loop-at-test.true (sym c.is_later_field.ensures ∙ c.if-not-is_later_field.true)))
-    ∙ at.invariant.3
+    let l = c.loop-rest in
+    let bytes = l.rest.now in
+    sym (ap (walked l.calls l.strays l.after_call) (no_field bytes (some_left bytes c.is_empty.ensures c.loop-rest-test.true) (sym c.is_later_field.ensures ∙ c.if-not-is_later_field.true)))
+    ∙ l.invariant.same
 
-pub size_at-requires : goal.size_at-requires
-size_at-requires c =
-    omega (arith, whole_some c.args.trace.now c.loop-at.at (and_left (is_whole (drop c.loop-at.at c.args.trace.now)) _ (field (goal.at.size_at-requires c).Else-not-is_later_field)))
+pub split-requires : goal.split-requires
+split-requires c = sym c.is_later_field.ensures ∙ c.if-not-is_later_field.false
 
-pub overflow_add-at-in-loop-at : goal.overflow_add-at-in-loop-at
-overflow_add-at-in-loop-at c = omega (arith, ends (goal.at.overflow_add-at-in-loop-at c).After-size_at)
+pub loop-rest-preserved : goal.loop-rest-preserved
+loop-rest-preserved c =
+    let s = c.split.ensures in
+    let l = c.loop-rest in
+    let tag = byte_of c.split.result.0.tag in
+    let some = some_left l.rest.now c.is_empty.ensures c.loop-rest-test.true in
+    let is_call : c.is_call-is_call.result ≡ is_call_tag tag = c.is_call-is_call.ensures in
+    let calls : c.from-calls.result ≡ to_bit (is_call_tag tag) = c.from-calls.ensures ∙ counted c.is_call-is_call.result ∙ ap to_bit is_call in
+    let strays : c.if-strays.strays ≡ (l.strays || is_answer_tag tag && not l.after_call) =
+    rw (answer_or_call c.split.result.0.tag, sym is_call)
+    (elim c.if-strays.branch [
+      | then-strays w ↦ rw w.if-strays.true (w.strays-is ∙ w.if-strays.true)
+      | else-strays+then-not-is_call w ↦ rw (w.if-strays.false, w.if-not-is_call.true) w.strays-is
+      | else-strays+else-not-is_call w ↦ rw (w.if-strays.false, w.if-not-is_call.false) (w.strays-is ∙ ap not w.if-not-is_call.false)
+    ]) in
+    record {
+      few = omega (arith, l.invariant.few, calls, bit_small (is_call_tag tag), ap length s.after_same, some, length-drop (3 + size_of l.rest.now) l.rest.now);
+      same =
+          ap₂ (λ (n : ℕ) (t : Bool). walked (l.calls + n) t c.is_call-is_call.result (fields_of c.split.result.1.now)) calls strays
+          ∙ ap (λ (t : Bool). walked (l.calls + to_bit (is_call_tag tag)) (l.strays || is_answer_tag tag && not l.after_call) t (fields_of c.split.result.1.now)) is_call
+          ∙ sym (walk_turn l.calls l.strays l.after_call l.rest.now tag _ c.split.result.1.now some s)
+          ∙ l.invariant.same;
+    }
 
-pub loop-at-preserved : goal.loop-at-preserved
-loop-at-preserved c =
-    let l = c.loop-at in
-    let trace = c.args.trace.now in
-    let size = c.size_at.result in
-    let tag = get_or trace l.at 0 in
-    let found = (goal.at.loop-at-preserved c).After-size_at in (
-      ends found,
-      omega arith,
-      omega arith,
-      ap₂ (λ (n m : ℕ). walked (l.calls + n) (l.strays + m) tag (fields_of (drop (l.at + 3 + size) trace))) c.calls_in-calls.ensures.0 c.strays_in-strays.ensures.0
-          ∙ sym (walk_turn trace l.at size l.calls l.strays l.before c.loop-at-test.true (stated found) (later found))
-          ∙ l.invariant.3,
-    )
-
--- the fields are at their end
-ended :
-    (c : After-loop-at)
-    → cond (eqb c.loop-at.strays 0) (Calls c.loop-at.calls) (Refused 26)
-    ≡ walked 0 0 (tag_of c.args.trace.now) (later_fields c.args.trace.now)
-ended c =
-    let l = c.loop-at in
-    let bytes = c.args.trace.now in
-    sym (walk_end (drop l.at bytes) l.calls l.strays l.before (omega (arith, length-drop l.at bytes)))
-    ∙ l.invariant.3
-
-pub returns-then-strays-gt0 : goal.returns-then-strays-gt0
-returns-then-strays-gt0 c =
-    sym (ap (λ (none : Bool). cond none (Calls c.loop-at.calls) (Refused 26)) (ne_eqb c.loop-at.strays 0 (λ e. omega arith)))
-    ∙ ended (goal.at.returns-then-strays-gt0 c).After-loop-at
+pub returns-then-strays-2 : goal.returns-then-strays-2
+returns-then-strays-2 c =
+    let l = c.loop-rest in
+    ap (λ (t : Bool). cond t (Err StrayAnswer) (Ok l.calls)) (sym c.if-strays-2.true)
+    ∙ sym (walk_end l.rest.now l.calls l.strays l.after_call (none_left l.rest.now c.is_empty.ensures c.loop-rest-test.false))
+    ∙ l.invariant.same
 
 pub returns : goal.returns
 returns c =
-    let none : c.loop-at.strays ≡ 0 = omega arith in
-    sym (ap (λ (none : Bool). cond none (Calls c.loop-at.calls) (Refused 26)) (eq-eqb c.loop-at.strays 0 none))
-    ∙ ended (goal.at.returns c).After-loop-at
+    let l = c.loop-rest in
+    ap (λ (t : Bool). cond t (Err StrayAnswer) (Ok l.calls)) (sym c.if-strays-2.false)
+    ∙ sym (walk_end l.rest.now l.calls l.strays l.after_call (none_left l.rest.now c.is_empty.ensures c.loop-rest-test.false))
+    ∙ l.invariant.same

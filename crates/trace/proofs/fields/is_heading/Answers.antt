@@ -1,32 +1,32 @@
--- Each return rewrites with the tests that led there. A whole field of tag 0 has eight bytes.
-use mathlib.Core.Path.{sym, ◌∙◌}
+-- The trace begins with the heading's bytes before its range.
+use mathlib.Core.Path.{◌≡◌, refl, sym, ◌∙◌}
+use mathlib.Core.Bool.{Bool, true, false}
 use native.Mathlib.Omega.{arith}
-use borrow.Author.Tests.{eq-eqb, ne_eqb}
+use lib.ListN.{length, drop}
+use borrow.Author.Tests.{leb-true}
 use Rattle.trace.specs.Fields.{is_heading}
-use Rattle.trace.proofs.FieldLaws.{whole_some, heading_long}
+use Rattle.std.proofs.lemmas.Slice.Eq.{starts_is}
+use Rattle.std.proofs.lemmas.Bool.Decides.{Decides-eqb}
+use Rattle.trace.proofs.CheckLaws.{heading_length, heading_front, heading_found, heading_starts}
 use Rattle.trace.proofs.fields.is_heading.Goals as goal
+use Rattle.trace.proofs.fields.is_heading.Goals.{then-trace-ge8, else-trace-ge8}
 
-pub returns-then-not-is_whole : goal.returns-then-not-is_whole
-unfolding is_heading
-returns-then-not-is_whole c = rw (sym c.is_whole.ensures ∙ c.if-not-is_whole.true)
+pub returns-then-starts_with : goal.returns-then-starts_with
+returns-then-starts_with c =
+    elim c.if-trace-ge8.branch [
+      | then-trace-ge8 w ↦ sym (heading_found c.args.trace.now w.if-trace-ge8.true ((starts_is Decides-eqb c.args.trace.now heading_front w.starts_with.result w.starts_with.ensures.value).0 (sym w.value-is ∙ c.if-starts_with.true)))
+      | else-trace-ge8 w ↦ absurd (omega (arith, leb-true 8 (length c.args.trace.now) (sym w.value-is ∙ c.if-starts_with.true), w.if-trace-ge8.false))
+    ]
 
-pub bounds-trace-0 : goal.bounds-trace-0
-bounds-trace-0 c = omega (arith, whole_some c.args.trace.now 0 (sym c.is_whole.ensures ∙ c.if-not-is_whole.false))
-
-pub returns-then-trace-ne0 : goal.returns-then-trace-ne0
-unfolding is_heading
-returns-then-trace-ne0 c = rw (sym c.is_whole.ensures ∙ c.if-not-is_whole.false, ne_eqb _ _ c.if-trace-ne0.true)
-
-pub slice_bounds-same_bytes-end : goal.slice_bounds-same_bytes-end
-slice_bounds-same_bytes-end c = omega (arith, heading_long c.args.trace.now (sym c.is_whole.ensures ∙ c.if-not-is_whole.false) c.if-trace-ne0.false)
-
-pub returns-then-not-same_bytes : goal.returns-then-not-same_bytes
-unfolding is_heading
-returns-then-not-same_bytes c = rw (sym c.is_whole.ensures ∙ c.if-not-is_whole.false, eq-eqb _ _ c.if-trace-ne0.false, sym c.same_bytes.ensures ∙ c.if-not-same_bytes.true)
-
-pub bounds-trace-7 : goal.bounds-trace-7
-bounds-trace-7 c = omega (arith, heading_long c.args.trace.now (sym c.is_whole.ensures ∙ c.if-not-is_whole.false) c.if-trace-ne0.false)
-
-pub returns : goal.returns
-unfolding is_heading
-returns c = rw (sym c.is_whole.ensures ∙ c.if-not-is_whole.false, eq-eqb _ _ c.if-trace-ne0.false, sym c.same_bytes.ensures ∙ c.if-not-same_bytes.false)
+pub returns-else-starts_with : goal.returns-else-starts_with
+returns-else-starts_with c =
+    let other : is_heading c.args.trace.now ≡ false = go (is_heading c.args.trace.now) refl in
+    c.if-starts_with.false ∙ sym other
+  where
+    go : (t : Bool) → is_heading c.args.trace.now ≡ t → t ≡ false
+    go false e = refl
+    go true e =
+        elim c.if-trace-ge8.branch [
+          | then-trace-ge8 w ↦ sym ((starts_is Decides-eqb c.args.trace.now heading_front w.starts_with.result w.starts_with.ensures.value).1 (drop 7 c.args.trace.now) (heading_starts c.args.trace.now e)) ∙ sym w.value-is ∙ c.if-starts_with.false
+          | else-trace-ge8 w ↦ absurd (omega (arith, heading_length c.args.trace.now e, w.if-trace-ge8.false))
+        ]

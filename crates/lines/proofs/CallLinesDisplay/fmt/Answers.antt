@@ -1,0 +1,14 @@
+-- Each turn writes the line of one more call.
+use Rattle.std.proofs.Common.{rules, ◌≡◌, ◌/◌, length, take}
+use Rattle.std.specs.Simd.{first_chunks}
+use Rattle.std.proofs.Output.{has_written_append, has_written_of_eq}
+use Rattle.lines.proofs.AnswerLaws.{one_more}
+use Rattle.lines.proofs.CallLinesDisplay.fmt.Goals as goal
+
+pub loop-call-preserved : goal.loop-call-preserved
+loop-call-preserved g c = λ plain.
+    let before = c.loop-call.invariant plain in
+    let answers = c.args.self.now.answers.now in
+    let taken : c.in-Some.answers.now ≡ take c.args.self.now.calls (first_chunks 5 (length answers / 5) answers) = search rules in
+    has_written_of_eq _ _ _ _ _ (one_more answers c.in-Some.answers.now c.args.self.now.calls taken (search rules) c.loop-call.call _ (search rules) c.of_call-line.ensures.text)
+    (has_written_append _ _ _ _ _ _ before (c.in_ok-write.ensures.writes before.plain (search rules)))
