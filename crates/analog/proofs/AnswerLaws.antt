@@ -122,7 +122,7 @@ module _ (questions : List Question) (value : ℕ) where
       go (unmet refusal some number err) =
           rw err
           (record {
-            refused = λ f. sym number;
+            refused = λ f. err;
             accepted = λ f. absurd (false≢true (sym some ∙ f));
             number = sym number;
             value = λ f. refl;

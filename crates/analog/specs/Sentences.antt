@@ -1,12 +1,12 @@
 -- Sentence 1 of the data sheet, of every answer, and of the correction. `correction_answered` in proofs/Theorems.antt proves the latter.
-use Rattle.std.specs.Prelude.{ℕ, true, false, List, ◌≡◌, IsErrAnd}
-use Rattle.analog.specs.Answers.{Answer, number_of_refusal, Question, first_no, all_met, number_of, value_of, is_accepted}
+use Rattle.std.specs.Prelude.{ℕ, true, false, List, ◌≡◌, Err, IsErrAnd}
+use Rattle.analog.specs.Answers.{Answer, Question, first_no, all_met, asked, number_of, value_of, is_accepted}
 use Rattle.analog.specs.Correction.{correction_questions, corrected_answer}
 
 -- an answer to a call that is asked these questions: "A call is refused if document 01's questions for it meet a no, and otherwise
 -- it is accepted. A refused call's number is that of the first no, its value is 0"
 pub record AnsweredBy (questions : List Question) (answer : Answer) : Type 0 where
-  pub refused : all_met questions ≡ false → IsErrAnd answer (λ refusal. number_of_refusal refusal ≡ first_no questions)
+  pub refused : all_met questions ≡ false → IsErrAnd answer (λ refusal. asked questions ≡ Err refusal)
   pub accepted : all_met questions ≡ true → is_accepted answer ≡ true
   pub number : number_of answer ≡ first_no questions
   pub value : all_met questions ≡ false → value_of answer ≡ 0

@@ -1,11 +1,11 @@
 // The analog arithmetic: the code of a voltage, its format, and the two-point correction.
 #![tactic(auto)]
 
-ghost use Rattle.std.specs.Prelude.{◌≡◌, ◌%◌, ◌<◌, get_or};
+ghost use Rattle.std.specs.Prelude.{◌≡◌, ◌<◌};
 ghost use Rattle.analog.specs.Answers.{number_of_refusal};
-ghost use Rattle.analog.specs.Code.{calibration_of, code_of, in_format};
+ghost use Rattle.analog.specs.Code.{gain_of, calibration_of, code_of, in_format};
 ghost use Rattle.analog.specs.Correction.{is_calibration, pair_usable, sums_possible, corrected_count, corrected_answer};
-ghost use Rattle.analog.specs.Machine.{raised_of, limited_quotient, nearest_count, CountFits, Correctable};
+ghost use Rattle.analog.specs.Machine.{raised_of, depth_of, factor_of, limited_quotient, nearest_count, CountFits, Correctable};
 
 // Why a call is refused: the question of document 01 or 02 that meets a no, with its number there.
 #[derive(Clone, Copy, Debug, PartialEq, Eq)]
@@ -52,22 +52,53 @@ pub type Answer = Result<u32, Refusal>;
 // The gain that a gain field means.
 const GAINS: [u64; 4] = [1, 2, 4, 8];
 
-// How far each range's low end is below 0 V.
-const DEPTHS: [u64; 4] = [5_000_000, 10_000_000, 0, 0];
+// What a range is to the code of a voltage.
+#[derive(Clone, Copy)]
+struct Scale {
+    // how far the range's low end is below 0 V
+    depth: u64,
+    // 65536 over the range's width is this number over 78125: a small factor keeps all products within 64 bits
+    factor: u64,
+}
 
-// 65536 over each range's width is this number over 78125: a small factor keeps all products within 64 bits.
-const FACTORS: [u64; 4] = [512, 256, 1024, 512];
+const SCALES: [Scale; 4] = [
+    Scale {
+        depth: 5_000_000,
+        factor: 512,
+    },
+    Scale {
+        depth: 10_000_000,
+        factor: 256,
+    },
+    Scale {
+        depth: 0,
+        factor: 1024,
+    },
+    Scale {
+        depth: 0,
+        factor: 512,
+    },
+];
 
 const CALIBRATIONS: [u32; 8] = [0, 0, 0, 4_900_000, 2_450_000, 1_225_000, 612_500, 0];
 
-// An entry of a table by a range or a gain field, of which the remainder counts.
-fn entry(table: &[u64; 4], field: u32) -> u64
-    ensures { result ≡ get_or table.now (field % 4) 0 }
+// The gain that a gain field means, of which the remainder counts.
+fn gain_of(field: u32) -> u64
+    ensures { result ≡ gain_of field }
 {
-    table[(field % 4) as usize]
+    GAINS[(field % 4) as usize]
 }
 
-// The calibration voltage of an acquisition code, in uV.
+// The scale of a range, of which the remainder counts.
+fn scale_of(range: u32) -> Scale
+    ensures depth { result.depth ≡ depth_of range }
+    ensures factor { result.factor ≡ factor_of range }
+{
+    SCALES[(range % 4) as usize]
+}
+
+// The calibration voltage of an acquisition code, in uV. Ranges, gain fields and acquisition codes are any numbers here: C hands
+// them over, and each has an answer.
 pub fn calibration(acquisition: u32) -> u32
     ensures { result ≡ calibration_of acquisition }
 {
@@ -93,11 +124,11 @@ fn limited_quotient(top: u64, less: u64, bottom: u64) -> u32
 pub fn code(range: u32, gain: u32, microvolts: i32) -> u16
     ensures { result ≡ code_of range gain microvolts }
 {
-    let g = entry(&GAINS, gain);
-    let factor = entry(&FACTORS, range);
-    let voltage = raised(microvolts) * g + entry(&DEPTHS, range);
+    let g = gain_of(gain);
+    let scale = scale_of(range);
+    let voltage = raised(microvolts) * g + scale.depth;
     let zero = 2147483648 * g;
-    limited_quotient(voltage * factor, zero * factor, 78125) as u16
+    limited_quotient(voltage * scale.factor, zero * scale.factor, 78125) as u16
 }
 
 // A straight code in the output format: straight binary, or two's complement.
@@ -156,15 +187,16 @@ fn corrected_count(
     requires { Correctable high low high_sum low_sum raw }
     ensures { result ≡ corrected_count range gain high low high_sum low_sum raw }
 {
-    let g = entry(&GAINS, gain);
+    let g = gain_of(gain);
+    let scale = scale_of(range);
     let low_voltage = u64::from(calibration(low));
     let slope = g * (u64::from(calibration(high)) - low_voltage);
-    let base = low_voltage * g + entry(&DEPTHS, range);
+    let base = low_voltage * g + scale.depth;
     let span = u64::from(high_sum - low_sum);
     nearest_count(
         slope,
         base,
-        entry(&FACTORS, range),
+        scale.factor,
         span,
         u64::from(low_sum),
         u64::from(raw),

@@ -18,7 +18,8 @@ fn hex_digits(value: u32) -> [u8; 8]
     text
 }
 
-// The parts, one after the other, in the first bytes of `out`; their count is returned, and the other bytes stay.
+// The parts, one after the other, in the first bytes of `out`; their count is returned, and the other bytes stay. Parts differ in
+// length, so no iterator gives their places.
 fn put_parts(out: &mut [u8], parts: &[&[u8]]) -> usize
     requires { length (flat_map (λ p. p.now) parts.now) ≤ length out.old }
     ensures { Begins (flat_map (λ p. p.now) parts.now) out.old out.new result }
@@ -35,7 +36,7 @@ fn put_parts(out: &mut [u8], parts: &[&[u8]]) -> usize
 // A line, with its line break.
 #[derive(Clone, Copy, Debug, PartialEq, Eq)]
 pub enum Line {
-    // of a call: its index from 1, and its answer's number and value
+    // of a call: its index from 1, and its answer's number and value; an answer's bytes may hold any number
     Call { index: u32, number: u8, value: u32 },
     // of a refused trace
     Refused { number: u8 },

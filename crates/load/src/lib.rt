@@ -27,7 +27,8 @@ fn step(mut x: u32) -> u32
 }
 
 // The kinds of call that a load has, by the tag of their field. A call's numbers are made from q, the whole part of x / 8;
-// reads and writes are 16 bits wide.
+// reads and writes are 16 bits wide. A variant carries no numbers: with them, counting the sizes took a fifth longer. The player's
+// tags are its own.
 #[derive(Clone, Copy)]
 enum Kind {
     Read = 1,
@@ -118,7 +119,8 @@ fn put_heading(place: &mut [u8], range: u32)
     place.copy_from_slice(&[0, 5, 0, b'A', b'3', b'3', b'0', range as u8]);
 }
 
-// The fields of all calls, at the front of what is left of the buffer.
+// The fields of all calls, at the front of what is left of the buffer. Fields differ in size, so no iterator of parts gives their
+// places.
 fn put_calls(rest: &mut [u8], seed: u32, calls: u32)
     requires { length (calls_bytes seed calls) ≤ length rest.old }
     ensures { rest.new ≡ calls_bytes seed calls ++ drop (length (calls_bytes seed calls)) rest.old }

@@ -39,6 +39,7 @@ pub enum InterruptOn {
     LastStore,
 }
 
+// Of each field, `of` and no TryFrom: a field of a word is no conversion of the word.
 impl ScanMode {
     pub(crate) fn of(control: u16) -> Option<Self>
         ensures { result ≡ scan_mode control }

@@ -104,7 +104,7 @@ impl From<Core> for [u32; 17] {
     }
 }
 
-// The board that lent parts hold.
+// The board that lent parts hold: five parts, so no From.
 pub(crate) fn put_together(
     words: &[u32; 17],
     inputs: [i32; 32],

@@ -1,7 +1,8 @@
 // The calls in place, on a board that is lent in parts: its four arrays, and 17 words that hold the rest.
 // What a call changes is lent for change; the rest of the board is lent to be read, but for a look and a clear, which are
 // lent no more than they need. The arrays are parameters of their own, since C lends each for reading or for change.
-ghost use Rattle.std.specs.Prelude.{◌&&◌, cond, not, List, ◌≡◌, ℕ, ◌<◌, ℤ, set};
+// Widths, offsets, ticks and the like are any numbers that C hands over, and a wrong one is refused.
+ghost use Rattle.std.specs.Prelude.{◌&&◌, cond, not, List, ◌≡◌, ℕ, ℤ, set};
 ghost use Rattle.pmc330_model.specs.Board.{idle_cycle, after_write, read_call, write_call, input_call, advance_call, trigger_call, reset_call, look_call, clear_call, request_line, next_store, if_any};
 ghost use Rattle.pmc330_model.specs.Map.{if_mailbox};
 ghost use Rattle.pmc330_model.specs.Lent.{board_in, words_after, open_call};
@@ -45,6 +46,7 @@ fn after_read(unread: &mut [u8; 32], register: Register)
     ensures { unread.new ≡ if_mailbox register (λ slot. set unread.old slot 0) unread.old }
 {
     if let Register::Mailbox(slot) = register {
+        // a test: of the elements after a `get_mut` nothing is known
         if slot < 32 {
             unread[usize::from(slot)] = 0;
         }
@@ -80,9 +82,8 @@ fn after_write(
     gains: &mut [u8; 32],
     unread: &mut [u8; 32],
     register: Register,
-    word: u32,
+    word: u16,
 ) -> Core
-    requires { word < 65536 }
     ensures { (codes : List ℕ) → board_with result inputs.now gains.new codes unread.new ≡ after_write register word (board_with core inputs.now gains.old codes unread.old) }
 {
     map_words::gains_with(gains, register, word);

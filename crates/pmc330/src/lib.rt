@@ -1,5 +1,5 @@
 // The board's calls, by value. Each is equal to its definition in pmc330_model: a board is taken apart, the call made in place,
-// and the board put together.
+// and the board put together. Each call is the same three steps, for which a closure would be no shorter.
 #![tactic(auto)]
 
 mod cycle;
@@ -131,7 +131,7 @@ pub fn clear(b: Board, slot: u32) -> Reply
 pub fn request_line(b: Board) -> bool
     ensures { result ≡ request_line b }
 {
-    b.registers.enable && b.pending
+    Parts::from(b).request_line()
 }
 
 // The ticks to the next store if only time passes, if one is to come.

@@ -61,7 +61,7 @@ fn is_writable(register: Register) -> bool
 }
 
 // Question 6.
-fn is_allowed(idle: bool, register: Register, word: u32, resulting: Registers) -> bool
+fn is_allowed(idle: bool, register: Register, word: u16, resulting: Registers) -> bool
     ensures { result ≡ is_allowed idle register word resulting }
 {
     idle || match register {
@@ -154,7 +154,7 @@ pub(crate) fn of_word(
     r: Registers,
     idle: bool,
     register: Register,
-    word: u32,
+    word: u16,
     resulting: Registers,
 ) -> Result<(), Refusal>
     ensures { result ≡ asked (word_questions r idle register word resulting) }

@@ -10,6 +10,7 @@ use pmc330_model::Registers;
 
 // What stores write, of each slot: its code, and how many stores were not read. That a call gives both references back is a
 // clause of its own (SameLoan): a struct that holds a `&mut` has no model that could say it.
+// No constructor: tried, and with it the proofs of an advance and a trigger did not close as they stand.
 #[derive(Drop)]
 pub struct Mailboxes<'a> {
     pub codes: &'a mut [u16; 32],

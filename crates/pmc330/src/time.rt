@@ -79,7 +79,7 @@ fn waited(core: Core, ticks: u32) -> Core
     }
 }
 
-// Any board, from event to event.
+// Any board, from event to event. Core, channels and boxes stay three parameters, since `starts` takes each by itself.
 fn run_any(core: Core, channels: Channels, boxes: &mut Mailboxes, ticks: u32) -> Run
     ensures run { RunOf ticks (board_on core channels.entry boxes.old) (board_on result.core channels.entry boxes.new) result.stores }
     ensures unchanged { boxes.new.changed ≡ false → Unmoved boxes.old boxes.new }

@@ -28,14 +28,10 @@ fn flag_word(unread: &[u8; 32], half: u8, least: u8) -> u32
     ensures { result ≡ joined 2 (λ i. to_bit (leb least (get_or unread.now (16 * half + i) 0))) 16 }
 {
     let first = 16 * usize::from(half);
-    if 32 <= first {
-        return 0;
+    match unread.get(first..first + 16) {
+        Some(counts) => joined(2, counts, |stores| u8::from(least <= stores)),
+        None => 0,
     }
-    joined(
-        2,
-        &unread[first..first + 16],
-        |stores| u8::from(least <= stores),
-    )
 }
 
 // A word of a group of eight gains.
@@ -43,10 +39,10 @@ fn gain_word(gains: &[u8; 32], group: u8) -> u32
     ensures { result ≡ joined 4 (λ i. get_or gains.now (8 * group + i) 0) 8 }
 {
     let first = 8 * usize::from(group);
-    if 32 <= first {
-        return 0;
+    match gains.get(first..first + 8) {
+        Some(eight) => joined(4, eight, |gain| gain),
+        None => 0,
     }
-    joined(4, &gains[first..first + 8], |gain| gain)
 }
 
 // The bits of a word that a write sets.
@@ -69,10 +65,10 @@ pub(crate) fn held_word(r: Registers, gains: &[u8; 32], register: Register) -> u
 fn mailbox_word(codes: &[u16; 32], slot: u8) -> u32
     ensures { result ≡ get_or codes.now slot 0 }
 {
-    if slot < 32 {
-        return u32::from(codes[usize::from(slot)]);
+    match codes.get(usize::from(slot)) {
+        Some(code) => u32::from(*code),
+        None => 0,
     }
-    0
 }
 
 // The word that is read. It is handed the arrays that a read is lent.
@@ -105,11 +101,11 @@ pub(crate) fn look_value(code: u16, stores: u8) -> u32
 
 // The byte of a word at a place.
 #[tactic(auto, using(crate::proofs::WordLaws::byte_power))]
-fn byte_at(word: u32, place: u32) -> u32
+fn byte_at(word: u32, place: u32) -> u8
     requires { place < 4 }
     ensures { result ≡ word / 0x100 ^ place % 0x100 }
 {
-    (word >> (8 * place)) % 0x100
+    ((word >> (8 * place)) % 0x100) as u8
 }
 
 // The bytes of a word that a read covers.
@@ -122,9 +118,9 @@ pub(crate) fn read_bytes(width: Width, offset: u32, word: u32) -> u32
 }
 
 // A byte of a word after a write: the written one where the width covers it, else the old one.
-fn written_byte(width: Width, offset: u32, value: u32, old: u32, place: u32) -> u32
+fn written_byte(width: Width, offset: u32, value: u32, old: u32, place: u32) -> u8
     requires { place < 2 }
-    ensures { (result ≡ written_byte (bits_of width) offset value old place) × (result < 0x100) }
+    ensures { result ≡ written_byte (bits_of width) offset value old place }
 {
     let first = offset % 4;
     if first <= place && place < first + width.bytes() {
@@ -135,26 +131,25 @@ fn written_byte(width: Width, offset: u32, value: u32, old: u32, place: u32) -> 
 
 // The word after a write.
 #[tactic(auto, unfolding(pmc330_model::specs::Words::written_word))]
-pub(crate) fn written_word(width: Width, offset: u32, value: u32, old: u32) -> u32
-    ensures { (result ≡ written_word (bits_of width) offset value old) × (result < 65536) }
+pub(crate) fn written_word(width: Width, offset: u32, value: u32, old: u32) -> u16
+    ensures { result ≡ written_word (bits_of width) offset value old }
 {
     let low = written_byte(width, offset, value, old, 0);
     let high = written_byte(width, offset, value, old, 1);
-    low + high * 0x100
+    u16::from_le_bytes([low, high])
 }
 
 // The registers after a register takes a word.
 #[tactic(auto, unfolding(pmc330_model::specs::Words::with_word))]
-pub(crate) fn with_word(register: Register, word: u32, r: Registers) -> Registers
-    requires { word < 65536 }
+pub(crate) fn with_word(register: Register, word: u16, r: Registers) -> Registers
     ensures { result ≡ with_word register word r }
 {
     let mut n = r;
     match register {
         Register::Interrupt => n.enable = word % 2 == 1,
-        Register::Control => n.control = (word % 0x40 + word / 0x100 % 0x40 * 0x100) as u16,
+        Register::Control => n.control = word % 0x40 + word / 0x100 % 0x40 * 0x100,
         Register::Prescaler => n.prescaler = (word / 0x100) as u8,
-        Register::Timer => n.timer = word as u16,
+        Register::Timer => n.timer = word,
         Register::Channels => {
             n.start = (word % 0x100) as u8;
             n.end = (word / 0x100) as u8;
@@ -165,10 +160,11 @@ pub(crate) fn with_word(register: Register, word: u32, r: Registers) -> Register
 }
 
 // A group of eight gains takes two bits each.
-fn gains_from(gains: &mut [u8; 32], group: u8, word: u32)
+fn gains_from(gains: &mut [u8; 32], group: u8, word: u16)
     ensures { gains.new ≡ gains_from (8 * group) word 8 gains.old }
 {
     let first = 8 * usize::from(group);
+    // a test: of the elements after a `get_mut` nothing is known
     if 32 <= first {
         return;
     }
@@ -180,7 +176,7 @@ fn gains_from(gains: &mut [u8; 32], group: u8, word: u32)
 }
 
 // The gains when a register takes a word.
-pub(crate) fn gains_with(gains: &mut [u8; 32], register: Register, word: u32)
+pub(crate) fn gains_with(gains: &mut [u8; 32], register: Register, word: u16)
     ensures { gains.new ≡ gains_with register word gains.old }
 {
     if let Register::Gain(group) = register {
@@ -189,21 +185,21 @@ pub(crate) fn gains_with(gains: &mut [u8; 32], register: Register, word: u32)
 }
 
 // Whether a write releases the interrupt.
-pub(crate) fn is_release(register: Register, word: u32) -> bool
+pub(crate) fn is_release(register: Register, word: u16) -> bool
     ensures { result ≡ is_release register word }
 {
     matches!(register, Register::Interrupt) && word / 0x8000 % 2 == 1
 }
 
 // Whether a write ends the cycle.
-pub(crate) fn is_stop(register: Register, word: u32) -> bool
+pub(crate) fn is_stop(register: Register, word: u16) -> bool
     ensures { result ≡ is_stop register word }
 {
     matches!(register, Register::Control) && word / 0x100 % 8 == 0
 }
 
 // Whether a write starts a cycle.
-pub(crate) fn is_start(register: Register, word: u32) -> bool
+pub(crate) fn is_start(register: Register, word: u16) -> bool
     ensures { result ≡ is_start register word }
 {
     matches!(register, Register::StartConvert) && word % 2 == 1

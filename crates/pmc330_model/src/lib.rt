@@ -7,6 +7,7 @@ use analog::Answer;
 // are 32 mailboxes.
 #[derive(Clone, Copy, Debug, PartialEq, Eq)]
 pub enum Register {
+    // no register at all: a class of the map's table like the others
     Unmapped,
     Interrupt,
     Control,
@@ -57,6 +58,7 @@ pub struct Cycle {
 // The board, passed by value.
 #[derive(Clone, Copy)]
 pub struct Board {
+    // 0 to 3; a board that C holds may have any number here
     pub range: u8,
     pub inputs: [i32; 32],
     pub gains: [u8; 32],

@@ -15,6 +15,8 @@ use std::io;
 use std::io::{Read, Write};
 use trace::Replayed;
 
+const MOST_BYTES: usize = 32_768;
+
 fn line_of(replayed: Result<Replayed, Refusal>) -> Line
     ensures { text_of result ≡ printed_of replayed }
 {
@@ -32,7 +34,7 @@ fn run<R: Read, W: Write>(input: &mut R, output: &mut W) -> io::Result<()>
     ensures { IfSome (R.remaining input.old) (λ bytes. OnOk result
         (Appends (W.contents output.old) (W.contents output.new) (printed_of (replayed (take 32768 bytes))))) }
 {
-    let mut bytes = [0u8; 32_768];
+    let mut bytes = [0u8; MOST_BYTES];
     let n = reads::read_full(input, &mut bytes)?;
     let line = line_of(trace::replay(&bytes[..n]));
     write!(output, "{line}")

@@ -17,6 +17,7 @@ fn play_one<R: Read, W: Write>(
 ) -> io::Result<()> {
     read_full(input, trace)?;
     read_full(input, answers)?;
+    // as C gets it; the crate that packs it for C is a static library, on which nobody stands
     let result = match trace::play(trace, answers) {
         Ok(calls) => 256 * u64::from(calls),
         Err(refusal) => u64::from(refusal.number()),

@@ -9,5 +9,5 @@ returns c =
     let a = c.args in
     let f = c.ranges in
     c.limited_quotient.ensures
-    ∙ simp (c.entry.ensures, c.raised.ensures, to_z-of_z f.microvolts, c.entry-factor.ensures, c.entry-g.ensures)
+    ∙ simp (c.scale_of-scale.ensures.depth, c.raised.ensures, to_z-of_z f.microvolts, c.scale_of-scale.ensures.factor, c.gain_of-g.ensures)
     (sym (code_law a.range a.gain a.microvolts f.microvolts.sfits))

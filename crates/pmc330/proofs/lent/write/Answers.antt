@@ -44,7 +44,7 @@ word_is :
     → c.written_word-word.result
     ≡ written_word (bits_of c.in_ok-access.access.width) c.args.offset c.args.value (held_word c.from-core.result.registers c.args.gains.now c.in_ok-access.access.register)
 word_is c =
-    c.written_word-word.ensures.0
+    c.written_word-word.ensures
     ∙ ap (written_word (bits_of c.in_ok-access.access.width) c.args.offset c.args.value) c.held_word-old.ensures
 
 abbrev later : After-with_word-resulting → List Question
