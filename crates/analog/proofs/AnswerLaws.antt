@@ -8,35 +8,7 @@ use Rattle.std.specs.Prelude.{Result, Ok, Err, ⊤}
 use Rattle.analog.specs.Answers.{number_of_refusal, Question, first_no, all_met, asked, with_value, answered, number_of, is_accepted}
 use Rattle.analog.specs.Sentences.{AnsweredBy}
 use Rattle.analog.specs.declared.Refusal.{Refusal}
-use Rattle.analog.specs.declared.Refusal.TheVariants.{BadWidth, BadOffset, Unmapped, BadValue, BadDirection, Busy, BadCode, NoScan, BadChannels, BadInterval, BadChannel, BadVoltage, BadTicks, BadRange, BadCalibration, BadCodes, BadSums, BadHeading, BadField, ShortBuffer, BadWindow, BadSlot, StrayAnswer, BadSeed, NoRoom}
-
--- no refusal has number 0
-pub number_some : (refusal : Refusal) → 0 < number_of_refusal refusal
-number_some BadWidth = omega arith
-number_some BadOffset = omega arith
-number_some Unmapped = omega arith
-number_some BadValue = omega arith
-number_some BadDirection = omega arith
-number_some Busy = omega arith
-number_some BadCode = omega arith
-number_some NoScan = omega arith
-number_some BadChannels = omega arith
-number_some BadInterval = omega arith
-number_some BadChannel = omega arith
-number_some BadVoltage = omega arith
-number_some BadTicks = omega arith
-number_some BadRange = omega arith
-number_some BadCalibration = omega arith
-number_some BadCodes = omega arith
-number_some BadSums = omega arith
-number_some BadHeading = omega arith
-number_some BadField = omega arith
-number_some ShortBuffer = omega arith
-number_some BadWindow = omega arith
-number_some BadSlot = omega arith
-number_some StrayAnswer = omega arith
-number_some BadSeed = omega arith
-number_some NoRoom = omega arith
+use Rattle.analog.proofs.RefusalLaws.{number_some}
 
 -- what the questions come to: all are met, or one meets a no, which refuses with its number
 pub data Outcome : List Question → Type 0 where

@@ -1,7 +1,7 @@
 -- The corrected count by unsigned numbers.
 use mathlib.Core.Path.{◌≡◌, ap, ap₂, ◌∙◌}
 use Prim.Native.Nat.{ℕ, ◌+◌, ◌-◌, ◌*◌, ◌<◌, min}
-use native.Mathlib.Nat.{add-mul, mul_comm, mul_assoc, mul_left_comm, mul-one, one-mul, mul-pos, sub-pos_iff_lt, le_of_lt}
+use native.Mathlib.Nat.{mul_comm, mul_assoc, mul_left_comm, mul-one, one-mul, mul-pos, sub-pos_iff_lt, le_of_lt}
 use native.Mathlib.Omega.{arith}
 use lib.Dec.{lit<}
 use lib.IntN.{ℤ, pos, sub_ℕ, ◌-ℤ◌, ◌*ℤ◌}
@@ -21,9 +21,7 @@ top_taken_out :
     (slope raw low depth span : ℕ)
     → 65536 * (slope * 1024 * (raw * 32) + low * (1024 * span) + depth * (1024 * span))
     ≡ 1024 * (65536 * (slope * (32 * raw) + (low + depth) * span))
-top_taken_out slope raw low depth span =
-    rw (taken_out slope (raw * 32), mul_comm raw 32, mul_left_comm low 1024 span, mul_left_comm depth 1024 span, add-mul low depth span)
-    (omega arith)
+top_taken_out slope raw low depth span = grind arith
 
 module _ (range gain high low high_sum low_sum raw : ℕ) (voltages : calibration_of low < calibration_of high) (sums : low_sum < high_sum) where
   abbrev slope : ℕ

@@ -1,15 +1,14 @@
 -- What the operations on fractions come to, where a top is a difference of two naturals.
 use mathlib.Core.Path.{◌≡◌, refl}
 use mathlib.Core.HLevel.{is_prop→PathP}
-use mathlib.Core.Logic.{⊎_elim}
-use Prim.Native.Nat.{ℕ, zero, suc, ◌+◌, ◌-◌, ◌*◌, ◌/◌, ◌≤◌, ◌<◌, min}
+use Prim.Native.Nat.{ℕ, zero, suc, ◌+◌, ◌-◌, ◌*◌, ◌/◌, ◌<◌, min}
 use native.Mathlib.Bridge.{le_prop}
-use native.Mathlib.Nat.{zero-div, one-mul, zero-lt-suc, sub-pos_iff_lt, le_of_lt}
+use native.Mathlib.Nat.{one-mul, zero-lt-suc, sub-pos_iff_lt, le_of_lt}
 use native.Mathlib.Omega.{arith}
 use lib.IntN.{ℤ, pos, sub_ℕ, ◌-ℤ◌}
 use Rattle.analog.specs.Code.{limited}
 use Rattle.analog.specs.Fractions.{fraction, natural, inverse, ◌/ℚ◌, rounded_down, nearest}
-use Rattle.analog.proofs.Integers.{lt_or_le, sub_ge, sub_lt, exact, plus, times, times_one}
+use Rattle.analog.proofs.Integers.{exact, plus, times, times_one}
 
 -- a fraction is its top and its bottom, however the bottom was shown to be positive
 pub same : {t u : ℤ} {b c : ℕ} {p : 0 < b} {q : 0 < c} → t ≡ u → b ≡ c → fraction t b p ≡ fraction u c q
@@ -29,13 +28,7 @@ one_over {a} {b} less c p = rw (exact a b (le_of_lt less)) (inverse_is _ c p)
 
 -- rounded down and limited; where the difference is negative, the natural one is 0 and so is the result
 pub limited_down : (a b c : ℕ) (p : 0 < c) → limited (rounded_down (fraction (sub_ℕ a b) c p)) ≡ min ((a - b) / c) 65535
-limited_down a b c p =
-    ⊎_elim
-    (λ (h : a < b).
-    let none : a - b ≡ 0 = omega arith in
-    rw (sub_lt a b h, none, zero-div c))
-    (λ (h : b ≤ a). rw (sub_ge a b h))
-    (lt_or_le a b)
+limited_down a b c p = grind arith
 
 -- to the nearest and limited: with half the bottom more
 pub limited_nearest : (a b c : ℕ) (p : 0 < c) → limited (nearest (fraction (sub_ℕ a b) c p)) ≡ min ((a * 2 + c - b * 2) / (c * 2)) 65535

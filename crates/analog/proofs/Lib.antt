@@ -1,9 +1,9 @@
-pub mod Questions
 pub mod Integers
 pub mod FractionLaws
 pub mod Ranges
 pub mod CodeLaw
 pub mod CorrectionLaw
 pub mod Bounds
+pub mod RefusalLaws
 pub mod AnswerLaws
 pub mod Theorems

@@ -2,7 +2,7 @@
 #![tactic(auto)]
 
 ghost use Rattle.std.specs.Prelude.{◌≡◌, ◌<◌};
-ghost use Rattle.analog.specs.Answers.{number_of_refusal};
+ghost use Rattle.analog.specs.Answers.{number_of_refusal, packed};
 ghost use Rattle.analog.specs.Code.{gain_of, calibration_of, code_of, in_format};
 ghost use Rattle.analog.specs.Correction.{is_calibration, pair_usable, sums_possible, corrected_count, corrected_answer};
 ghost use Rattle.analog.specs.Machine.{raised_of, depth_of, factor_of, limited_quotient, nearest_count, CountFits, Correctable};
@@ -48,6 +48,16 @@ impl Refusal {
 
 // What a call answers: its value, or why it is refused.
 pub type Answer = Result<u32, Refusal>;
+
+// An answer as one number, as C gets it: 256 × value + number.
+pub fn packed(answer: Answer) -> u64
+    ensures { result ≡ packed answer }
+{
+    match answer {
+        Ok(value) => 256 * u64::from(value),
+        Err(refusal) => u64::from(refusal.number()),
+    }
+}
 
 // The gain that a gain field means.
 const GAINS: [u64; 4] = [1, 2, 4, 8];
@@ -109,7 +119,7 @@ pub fn calibration(acquisition: u32) -> u32
 fn raised(microvolts: i32) -> u64
     ensures { result ≡ raised_of microvolts }
 {
-    (i64::from(microvolts) + 2147483648) as u64
+    u64::from(microvolts.abs_diff(i32::MIN))
 }
 
 // (top - less) / bottom rounded down, limited to 0..65535.
@@ -162,7 +172,8 @@ fn sums_possible(high_sum: u32, low_sum: u32, raw: u32) -> bool
     high_sum <= 2_097_120 && low_sum <= 2_097_120 && raw <= 65_535
 }
 
-// The corrected count from the slope and the base that the calibration gives: the nearest whole number, halves up.
+// The corrected count from the slope and the base that the calibration gives: the nearest whole number, halves up. Six numbers
+// of one formula, made in one place: a struct would only be filled and taken apart.
 fn nearest_count(slope: u64, base: u64, factor: u64, span: u64, low_sum: u64, raw: u64) -> u32
     requires { CountFits slope base factor span low_sum raw }
     ensures { result ≡ nearest_count slope base factor span low_sum raw }
@@ -174,7 +185,7 @@ fn nearest_count(slope: u64, base: u64, factor: u64, span: u64, low_sum: u64, ra
     limited_quotient(twice * up + bottom, twice * down, 2 * bottom)
 }
 
-// The corrected count of a raw code, once the questions are met.
+// The corrected count of a raw code, once the questions are met. Likewise seven numbers, as C hands them over.
 fn corrected_count(
     range: u32,
     gain: u32,
@@ -204,6 +215,7 @@ fn corrected_count(
 }
 
 // The two-point correction of a raw code. C hands its numbers over one by one, and any numbers.
+#[tactic(auto, unfolding(crate::specs::Correction::corrected_answer, crate::specs::Answers::answered, crate::specs::Answers::asked))]
 pub fn corrected(
     range: u32,
     gain: u32,

@@ -1,4 +1,5 @@
 pub mod TextLaws
+pub mod FromFnLaws
 pub mod AnswerLaws
 pub mod PartLaws
 pub mod Room

@@ -1,25 +1,22 @@
 // The lines that the programs print: one for each call, or one for a refused trace; and one for a replay.
 #![tactic(auto)]
 
-ghost use Rattle.std.specs.Prelude.{◌≡◌, ◌+◌, ◌<◌, ◌≤◌, ◌%◌, ◌^◌, length, flat_map};
+ghost use Rattle.std.specs.Prelude.{◌≡◌, ◌+◌, ◌*◌, ◌<◌, ◌≤◌, ◌%◌, ◌^◌, length, flat_map, leb, is_some, IfSome};
+ghost use Rattle.std.specs.Simd.{first_chunks};
 ghost use Rattle.lines.specs.Text.{digit_of, hex_of, line_of, number_in, word_in, text_of, taken, put_lines, Begins};
 
 use itoa::Buffer;
-use std::fmt;
+use std::{array, fmt};
 
 // The eight hexadecimal digits of a value.
 fn hex_digits(value: u32) -> [u8; 8]
     ensures { result ≡ hex_of value }
 {
-    let mut text = [0; 8];
-    for (place, digit) in text.iter_mut().enumerate() {
-        *digit = b"0123456789ABCDEF"[(value >> (28 - 4 * place)) as usize % 16];
-    }
-    text
+    array::from_fn(|place| b"0123456789ABCDEF"[(value >> (28 - 4 * place)) as usize % 16])
 }
 
 // The parts, one after the other, in the first bytes of `out`; their count is returned, and the other bytes stay. Parts differ in
-// length, so no iterator gives their places.
+// length, so no iterator gives their places; tried with `split_at_mut`, and nothing can be said of what earlier turns put.
 fn put_parts(out: &mut [u8], parts: &[&[u8]]) -> usize
     requires { length (flat_map (λ p. p.now) parts.now) ≤ length out.old }
     ensures { Begins (flat_map (λ p. p.now) parts.now) out.old out.new result }
@@ -38,7 +35,7 @@ fn put_parts(out: &mut [u8], parts: &[&[u8]]) -> usize
 pub enum Line {
     // of a call: its index from 1, and its answer's number and value; an answer's bytes may hold any number
     Call { index: u32, number: u8, value: u32 },
-    // of a refused trace
+    // of a refused trace; a number, since this crate stands on none of the board's
     Refused { number: u8 },
     // of a replay in which all agree
     Agree { count: u32 },
@@ -48,6 +45,7 @@ pub enum Line {
 
 impl Line {
     // The line of the call after the first `call` ones, by its answer.
+    #[tactic(auto, using(crate::proofs::Room::length_line))]
     fn of_call(call: u32, answer: &[u8; 5]) -> Line
         requires { call + 1 < 2 ^ 32 }
         ensures text { text_of result ≡ line_of (call + 1) (number_in answer.now 0) (word_in answer.now 1) }
@@ -61,8 +59,8 @@ impl Line {
         }
     }
 
-    // The line, in the first bytes of `out`; their count is returned, and the other bytes stay. A buffer of less than 32 bytes takes none.
-    // It stands beside `Display` since it cannot fail, which no writer promises.
+    // The line in the first bytes of `out`, and their count; the other bytes stay. A buffer of less than 32 bytes takes none. Its
+    // promise stays beside `Display`: it cannot fail. Tried, a `Display` through it needs a check of text, which may fail.
     pub fn put(self, out: &mut [u8]) -> usize
         ensures { Begins (taken (text_of self) out.old) out.old out.new result }
     {
@@ -116,25 +114,37 @@ impl fmt::Display for Line {
     }
 }
 
-// A line for each of so many calls, from their answers of five bytes each; none where an answer is missing.
+// A line for each of so many calls, from their answers of five bytes each; none where an answer is missing. A count beside the
+// bytes: a player's buffer may be longer than its answers, or shorter than they would be.
 #[derive(Clone, Copy, Debug)]
 pub struct CallLines<'a> {
     pub answers: &'a [u8],
     pub calls: u32,
 }
 
-impl CallLines<'_> {
-    // The lines, likewise; it cannot fail either. None is put where an answer is missing or `out` has less than 32 bytes for each line.
+impl<'a> CallLines<'a> {
+    // The answers of the calls, where none is missing.
+    #[tactic(auto, using(crate::proofs::AnswerLaws::first_of))]
+    fn answered(self) -> Option<&'a [[u8; 5]]>
+        ensures count { IfSome result (λ answers. length answers.now ≡ self.entry.calls) }
+        ensures bytes { IfSome result (λ answers. answers.now ≡ first_chunks 5 self.entry.calls self.entry.answers.now) }
+        ensures all { is_some result ≡ leb (5 * self.entry.calls) (length self.entry.answers.now) }
+    {
+        let (answers, _) = self.answers.as_chunks();
+        answers.get(..self.calls as usize)
+    }
+
+    // The lines, likewise: none where an answer is missing, or where `out` has less than 32 bytes for each line.
     pub fn put(self, out: &mut [u8]) -> usize
         ensures { Begins (put_lines self.entry.answers.now self.entry.calls out.old) out.old out.new result }
     {
-        let (answers, _) = self.answers.as_chunks::<5>();
-        let Some(answers) = answers.get(..self.calls as usize) else {
+        let Some(answers) = self.answered() else {
             return 0;
         };
         if out.len() / 32 < answers.len() {
             return 0;
         }
+        // Lines differ in length, as parts do, and the same holds of them.
         let mut at = 0;
         for (call, answer) in answers.iter().enumerate() {
             at += Line::of_call(call as u32, answer).put(&mut out[at..]);
@@ -151,8 +161,7 @@ impl fmt::Display for CallLines<'_> {
 
     #[tactic(auto, unfolding(crate::specs::Text::lines_of))]
     fn fmt<W: fmt::Write>(&self, f: &mut fmt::Formatter<W>) -> fmt::Result {
-        let (answers, _) = self.answers.as_chunks::<5>();
-        let Some(answers) = answers.get(..self.calls as usize) else {
+        let Some(answers) = self.answered() else {
             return Ok(());
         };
         for (call, answer) in answers.iter().enumerate() {

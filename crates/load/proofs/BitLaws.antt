@@ -1,6 +1,6 @@
 -- Exclusive or by the definition and by the kit's operator, and its bits.
 use mathlib.Core.Bool.{cond, not}
-use mathlib.Core.Path.{◌≡◌, refl, sym, ap, ap₂, ◌∙◌}
+use mathlib.Core.Path.{◌≡◌, sym, ap, ap₂, ◌∙◌}
 use Prim.Native.Nat.{ℕ, zero, suc, ◌+◌, ◌/◌, ◌%◌, ◌^◌, ◌<◌}
 use native.Mathlib.Nat.{pow-suc}
 use native.Mathlib.Numerals.{one-add}
@@ -11,19 +11,9 @@ use lib.Pow.{shr-shr}
 use Rattle.pmc330_model.specs.Words.{bit_of}
 use Rattle.load.specs.Bits.{shifted_left, shifted_right, xor_in, xor_of, xor_left, xor_right, stepped}
 
--- a rule about two binary digits
-two_digits : (P : ℕ → ℕ → Type 0) → P 0 0 → P 0 1 → P 1 0 → P 1 1 → (a b : ℕ) → a < 2 → b < 2 → P a b
-two_digits P d e f g zero zero ha hb = d
-two_digits P d e f g zero (suc zero) ha hb = e
-two_digits P d e f g (suc zero) zero ha hb = f
-two_digits P d e f g (suc zero) (suc zero) ha hb = g
-two_digits P d e f g zero (suc (suc b)) ha hb = absurd (omega arith)
-two_digits P d e f g (suc zero) (suc (suc b)) ha hb = absurd (omega arith)
-two_digits P d e f g (suc (suc a)) b ha hb = absurd (omega arith)
-
 -- they differ where their sum is odd
 digit_differs : (a b : ℕ) → a < 2 → b < 2 → differ a b ≡ (a + b) % 2
-digit_differs = two_digits (λ (a b : ℕ). differ a b ≡ (a + b) % 2) refl refl refl refl
+digit_differs = grind arith
 
 -- of numbers of so many bits the kit's operator gives what the definition gives
 xor_is : (bits a b : ℕ) → a < 2 ^ bits → b < 2 ^ bits → bit_xor a b ≡ xor_in bits a b
@@ -72,8 +62,7 @@ xor_bits (suc bits) (suc place) a b h =
 
 -- and the bit is set there
 digit_set : (a b : ℕ) → a < 2 → b < 2 → eqb ((a + b) % 2) 1 ≡ cond (eqb a 1) (not (eqb b 1)) (eqb b 1)
-digit_set =
-    two_digits (λ (a b : ℕ). eqb ((a + b) % 2) 1 ≡ cond (eqb a 1) (not (eqb b 1)) (eqb b 1)) refl refl refl refl
+digit_set = grind arith
 
 pub xor_bit :
     (place a b : ℕ) → place < 32 → bit_of place (xor_of a b) ≡ cond (bit_of place a) (not (bit_of place b)) (bit_of place b)

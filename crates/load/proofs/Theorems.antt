@@ -1,18 +1,16 @@
 -- What the data sheet says of a load, proved. The statements are in specs/Sentences.antt.
-use mathlib.Core.Bool.{Bool, true, false, cond, not, ◌&&◌}
+use mathlib.Core.Bool.{Bool, true, false, cond, ◌&&◌}
 use mathlib.Core.List.{List, ◌∷◌, ◌++◌, map}
 use mathlib.Core.Path.{◌≡◌, refl, sym, ap, ap₂, subst, ◌∙◌}
 use Prim.Native.Nat.{ℕ, zero, suc, ◌+◌, ◌*◌, ◌≤◌}
 use native.Mathlib.Omega.{arith}
-use lib.Dec.{eqb, leb}
 use lib.ListN.{length, take, drop, length-append, length-drop}
 use lib.Seq.{take-append_seam, drop-append_seam}
-use borrow.Author.Tests.{le-leb, leb-true}
+use borrow.Author.Tests.{le-leb}
 use Rattle.analog.specs.Answers.{all_met, value_of}
 use Rattle.analog.proofs.AnswerLaws.{answered_by, accepted_is}
 use Rattle.pmc330_model.specs.Calls.{Call}
 use Rattle.pmc330_model.specs.Logbook.{logbook_answers}
-use Rattle.pmc330_model.proofs.Cases.{and_left, and_right}
 use Rattle.trace.specs.Grammar.{length_in, length_of, low_first}
 use Rattle.trace.specs.Fields.{Field, field_bytes, bytes_of_fields, tag_of, is_whole, same_bytes, is_heading, range_of, whole, later_fields, is_undamaged, listed, fields_after, call_fields, call_in, calls_of}
 use Rattle.trace.specs.Play.{answers_follow, trace_questions, in_buffer}
@@ -106,12 +104,7 @@ module _ (seed range calls : ℕ) where
 
   heading : range ≤ 3 → is_heading trace ≡ true
   unfolding load_trace bytes_of_fields is_heading is_whole same_bytes length_of length_in low_first
-  heading valid =
-      rw (
-        le-leb 3 (length trace) (omega arith),
-        le-leb 8 (length trace) (omega arith),
-        le-leb range 3 valid,
-      )
+  heading valid = grind arith
 
   accepted :
       (room : ℕ) → range ≤ 3 → length trace ≤ 16_777_216 → 5 * calls ≤ room
@@ -170,15 +163,7 @@ module _ (seed range calls : ℕ) (out : List ℕ) where
 
   met_says : met ≡ true → AllMet
   unfolding all_met
-  met_says e =
-      let after27 = and_right (not (eqb seed 0)) _ e in
-      let after14 = and_right (leb range 3) _ after27 in
-      let fits = and_left (leb (length bytes) (length out) && leb (length bytes) 16_777_216) true after14 in
-      record {
-        valid = leb-true range 3 (and_left (leb range 3) _ after27);
-        room = leb-true _ _ (and_left (leb (length bytes) (length out)) _ fits);
-        short = leb-true _ _ (and_right (leb (length bytes) (length out)) _ fits);
-      }
+  met_says e = grind arith
 
   beyond_stays : (t : Bool) → drop (length bytes) (cond t (bytes ++ drop (length bytes) out) out) ≡ drop (length bytes) out
   beyond_stays true = drop-append_seam bytes (drop (length bytes) out)

@@ -1,7 +1,7 @@
 -- The calls that are left, and their fields put into a buffer, one after the other.
-use mathlib.Core.List.{List, [], ◌++◌, append_assoc, append-nil}
-use mathlib.Core.Path.{◌≡◌, refl, sym, ap, ap₂, ◌∙◌}
-use Prim.Native.Nat.{ℕ, suc, ◌+◌, ◌-◌, ◌/◌, ◌≤◌, ◌<◌}
+use mathlib.Core.List.{List, [], ◌∷◌, ◌++◌, map, append_assoc, append-nil}
+use mathlib.Core.Path.{◌≡◌, sym, ap, ap₂, ◌∙◌}
+use Prim.Native.Nat.{ℕ, ◌+◌, ◌-◌, ◌≤◌}
 use native.Mathlib.Omega.{arith}
 use borrow.Rule.Slice.PartMut.{put_mid, post_of}
 use lib.ListN.{length, take, drop, length-append, take-append-drop}
@@ -9,32 +9,25 @@ use lib.Seq.{drop-drop, length-take-le}
 use Rattle.std.proofs.lemmas.Slice.{take-put_mid, drop-put_mid}
 use Rattle.pmc330_model.specs.Calls.{Call}
 use Rattle.trace.specs.Fields.{field_bytes, bytes_of_fields}
-use Rattle.load.specs.Bits.{stepped}
-use Rattle.load.specs.Load.{call_from, load_calls, field_for}
-use Rattle.load.specs.Machine.{call_of, call_bytes, calls_bytes}
-use Rattle.load.specs.declared.Kind.{Kind}
+use Rattle.load.specs.Load.{load_calls, field_for}
+use Rattle.load.specs.Machine.{calls_bytes}
 
 -- the next call's bytes, and those of the calls after it
 calls_next :
-    (x y calls counter : ℕ) (kind : Kind) → y ≡ stepped x → call_of kind (y / 8) ≡ call_from y → counter < calls
-    → calls_bytes x (calls - counter) ≡ call_bytes kind (y / 8) ++ calls_bytes y (calls - (counter + 1))
-unfolding bytes_of_fields load_calls
-calls_next x y calls counter kind e f some = go (calls - counter) (calls - (counter + 1)) (omega arith)
-  where
-    go : (left later : ℕ) → left ≡ suc later → calls_bytes x left ≡ call_bytes kind (y / 8) ++ calls_bytes y later
-    go left later is =
-        rw is
-        (ap₂ (λ (z : ℕ) (call : Call). field_bytes (field_for call) ++ calls_bytes z later) (sym e) (sym (f ∙ ap call_from e)))
+    (x left y later : ℕ) (call : Call) → load_calls x left ≡ call ∷ load_calls y later
+    → calls_bytes x left ≡ field_bytes (field_for call) ++ calls_bytes y later
+unfolding bytes_of_fields
+calls_next x left y later call next = ap (λ (l : List Call). bytes_of_fields (map field_for l)) next
 
 pub next_length :
-    (x y calls counter : ℕ) (kind : Kind) → y ≡ stepped x → call_of kind (y / 8) ≡ call_from y → counter < calls
-    → length (calls_bytes x (calls - counter)) ≡ length (call_bytes kind (y / 8)) + length (calls_bytes y (calls - (counter + 1)))
-next_length x y calls counter kind e f some =
-    ap length (calls_next x y calls counter kind e f some) ∙ length-append (call_bytes kind (y / 8)) (calls_bytes y (calls - (counter + 1)))
+    (x left y later : ℕ) (call : Call) → load_calls x left ≡ call ∷ load_calls y later
+    → length (calls_bytes x left) ≡ length (field_bytes (field_for call)) + length (calls_bytes y later)
+next_length x left y later call next =
+    ap length (calls_next x left y later call next) ∙ length-append (field_bytes (field_for call)) (calls_bytes y later)
 
-pub calls_end : (x left : ℕ) → left ≡ 0 → calls_bytes x left ≡ []
-unfolding bytes_of_fields load_calls
-calls_end x left none = rw none refl
+pub calls_end : (x left : ℕ) → load_calls x left ≡ [] → calls_bytes x left ≡ []
+unfolding bytes_of_fields
+calls_end x left none = ap (λ (l : List Call). bytes_of_fields (map field_for l)) none
 
 -- where the loop stands that puts them: what is put and what is left come to the whole, and the bytes past these stay
 pub record Putting (first all out : List ℕ) (x left at : ℕ) : Type 0 where
@@ -47,7 +40,7 @@ module _ (first all out : List ℕ) (x left at : ℕ) (p : Putting first all out
   putting_room =
       omega (arith, ap length p.front, length-append (take at out) (calls_bytes x left), length-take-le at out p.within)
 
-  pub putting_end : left ≡ 0 → out ≡ all ++ drop (length all) first
+  pub putting_end : load_calls x left ≡ [] → out ≡ all ++ drop (length all) first
   putting_end none =
       let nothing = calls_end x left none in
       let front : take at out ≡ all = sym (append-nil (take at out)) ∙ ap (λ (l : List ℕ). take at out ++ l) (sym nothing) ∙ p.front in
@@ -55,21 +48,18 @@ module _ (first all out : List ℕ) (x left at : ℕ) (p : Putting first all out
       sym (take-append-drop at out) ∙ ap₂ ◌++◌ front (p.back ∙ ap (λ (n : ℕ). drop n first) size)
 
 module _
-    (first all out : List ℕ) (x y calls counter at : ℕ) (kind : Kind) (e : y ≡ stepped x) (f : call_of kind (y / 8) ≡ call_from y)
-    (some : counter < calls) (room : length all ≤ length out) (p : Putting first all out x (calls - counter) at)
+    (first all out : List ℕ) (x left y later at : ℕ) (call : Call) (next : load_calls x left ≡ call ∷ load_calls y later)
+    (room : length all ≤ length out) (p : Putting first all out x left at)
   where
-    abbrev later : List ℕ
-    later = calls_bytes y (calls - (counter + 1))
-
-    pub putting_fits : at + length (call_bytes kind (y / 8)) ≤ length out
-    putting_fits =
-        omega (arith, room, putting_room first all out x (calls - counter) at p, next_length x y calls counter kind e f some)
+    pub putting_fits : at + length (field_bytes (field_for call)) ≤ length out
+    putting_fits = omega (arith, room, putting_room first all out x left at p, next_length x left y later call next)
 
     pub putting_turn :
-        (size : ℕ) (place : List ℕ) → size ≡ length (call_bytes kind (y / 8)) → place ≡ call_bytes kind (y / 8)
-        → Putting first all (put_mid at (at + size - at) out place) y (calls - (counter + 1)) (at + size)
+        (size : ℕ) (place : List ℕ) → size ≡ length (field_bytes (field_for call)) → place ≡ field_bytes (field_for call)
+        → Putting first all (put_mid at (at + size - at) out place) y later (at + size)
     putting_turn size place s b =
         let long : length place ≡ at + size - at = omega (arith, ap length b) in
+        let after = calls_bytes y later in
         record {
           within =
               omega (
@@ -79,10 +69,10 @@ module _
                 length-take-le at out p.within,
               );
           front =
-              ap (λ (l : List ℕ). l ++ later) (take-put_mid at (at + size - at) out place (at + size) (omega arith) p.within)
-              ∙ append_assoc (take at out) place later
-              ∙ ap (λ (l : List ℕ). take at out ++ (l ++ later)) b
-              ∙ ap (λ (l : List ℕ). take at out ++ l) (sym (calls_next x y calls counter kind e f some))
+              ap (λ (l : List ℕ). l ++ after) (take-put_mid at (at + size - at) out place (at + size) (omega arith) p.within)
+              ∙ append_assoc (take at out) place after
+              ∙ ap (λ (l : List ℕ). take at out ++ (l ++ after)) b
+              ∙ ap (λ (l : List ℕ). take at out ++ l) (sym (calls_next x left y later call next))
               ∙ p.front;
           back =
               drop-put_mid at (at + size - at) out place (at + size) (omega arith) p.within long

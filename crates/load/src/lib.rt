@@ -9,14 +9,13 @@ ghost use Rattle.load.specs.Load.{call_from, heading_for, load_answer, load_outp
 ghost use Rattle.load.specs.Machine.{call_of, call_bytes, calls_bytes};
 
 use analog::{Answer, Refusal};
-
-// The longest trace that the player takes.
-const LONGEST: usize = 16_777_216;
+use trace::LONGEST;
 
 // How many bytes the heading has.
 const HEADING: usize = 8;
 
 // One step of x: `<<` drops what goes past bit 31, as 02's "all in 32 bits" has it.
+#[tactic(auto, using(crate::proofs::BitLaws::step_is))]
 fn step(mut x: u32) -> u32
     ensures { result ≡ stepped x }
 {
@@ -26,9 +25,8 @@ fn step(mut x: u32) -> u32
     x
 }
 
-// The kinds of call that a load has, by the tag of their field. A call's numbers are made from q, the whole part of x / 8;
-// reads and writes are 16 bits wide. A variant carries no numbers: with them, counting the sizes took a fifth longer. The player's
-// tags are its own.
+// The kinds of call that a load has, by their field's tag; reads and writes are 16 bits wide. A call's numbers are made from q:
+// tried with variants that carry them, a load took 1.25 of the time. The player's tag has three more: each match would name them.
 #[derive(Clone, Copy)]
 enum Kind {
     Read = 1,
@@ -40,7 +38,7 @@ enum Kind {
 }
 
 impl Kind {
-    // The kind that x picks: by 02's number, once.
+    // The kind that x picks. Document 02 states it by this number; from here on it is a kind.
     #[tactic(auto, unfolding(crate::specs::Load::call_picked))]
     fn picked_by(x: u32) -> Self
         ensures { call_of result (x / 8) ≡ call_from x }
@@ -97,41 +95,61 @@ impl Kind {
     }
 }
 
+// The calls of a load that are left after an x: each one's kind, and the q of its numbers.
+#[derive(Clone, Copy, Drop)]
+struct Calls {
+    x: u32,
+    left: u32,
+}
+
+impl Iterator for Calls {
+    type Item = (Kind, u32);
+
+    ghost use Rattle.std.specs.Iterator.{YieldsFirstBy, item_count};
+    ghost use Rattle.load.specs.Load.{load_calls};
+    ghost use Rattle.load.specs.Machine.{call_of};
+
+    ghost next_gives = { YieldsFirstBy (λ call. call_of call.0 call.1) (λ s. load_calls s.x s.left) };
+
+    ghost remaining = { item_count (λ s. load_calls s.x s.left) };
+
+    #[tactic(auto, unfolding(crate::specs::Load::load_calls))]
+    fn next(&mut self) -> Option<(Kind, u32)> {
+        self.left = self.left.checked_sub(1)?;
+        self.x = step(self.x);
+        Some((Kind::picked_by(self.x), self.x / 8))
+    }
+}
+
 // The length of the load's trace, where it is within a limit. The buffer may not be touched before it is known.
-fn length_within(limit: usize, seed: u32, calls: u32) -> Option<usize>
-    ensures { let size = HEADING + length (calls_bytes seed calls) in SomeIff result (size ≤ limit) size }
+fn length_within(limit: usize, calls: Calls) -> Option<usize>
+    ensures { let size = HEADING + length (calls_bytes calls.x calls.left) in SomeIff result (size ≤ limit) size }
 {
-    let mut x = seed;
     let mut room = limit.checked_sub(HEADING)?;
-    for _ in 0..calls {
-        x = step(x);
-        room = room.checked_sub(Kind::picked_by(x).size())?;
+    for (kind, _) in calls {
+        room = room.checked_sub(kind.size())?;
     }
     Some(limit - room)
 }
 
 // The first field: the fixed bytes, and the range.
-fn put_heading(place: &mut [u8], range: u32)
-    requires size { length place.old ≡ HEADING }
-    requires valid { range ≤ 3 }
-    ensures { place.new ≡ field_bytes (heading_for range) }
+fn heading(range: u32) -> [u8; HEADING]
+    requires { range ≤ 3 }
+    ensures { result ≡ field_bytes (heading_for range) }
 {
-    place.copy_from_slice(&[0, 5, 0, b'A', b'3', b'3', b'0', range as u8]);
+    [0, 5, 0, b'A', b'3', b'3', b'0', range as u8]
 }
 
 // The fields of all calls, at the front of what is left of the buffer. Fields differ in size, so no iterator of parts gives their
-// places.
-fn put_calls(rest: &mut [u8], seed: u32, calls: u32)
-    requires { length (calls_bytes seed calls) ≤ length rest.old }
-    ensures { rest.new ≡ calls_bytes seed calls ++ drop (length (calls_bytes seed calls)) rest.old }
+// places; tried with `split_at_mut`, and nothing can be said of what earlier turns put.
+fn put_calls(rest: &mut [u8], calls: Calls)
+    requires { length (calls_bytes calls.x calls.left) ≤ length rest.old }
+    ensures { rest.new ≡ calls_bytes calls.x calls.left ++ drop (length (calls_bytes calls.x calls.left)) rest.old }
 {
-    let mut x = seed;
     let mut at = 0;
-    for _ in 0..calls {
-        x = step(x);
-        let kind = Kind::picked_by(x);
+    for (kind, q) in calls {
         let end = at + kind.size();
-        kind.put(x / 8, &mut rest[at..end]);
+        kind.put(q, &mut rest[at..end]);
         at = end;
     }
 }
@@ -150,10 +168,12 @@ pub fn load(seed: u32, range: u32, calls: u32, out: &mut [u8]) -> Answer
         return Err(Refusal::BadRange);
     }
     let limit = out.len().min(LONGEST);
-    let Some(length) = length_within(limit, seed, calls) else {
-        return Err(Refusal::NoRoom);
+    let all = Calls {
+        x: seed,
+        left: calls,
     };
-    put_heading(&mut out[..HEADING], range);
-    put_calls(&mut out[HEADING..], seed, calls);
+    let length = length_within(limit, all).ok_or(Refusal::NoRoom)?;
+    out[..HEADING].copy_from_slice(&heading(range));
+    put_calls(&mut out[HEADING..], all);
     Ok(length as u32)
 }

@@ -5,6 +5,5 @@ pub mod SpanLaws
 pub mod QuestionLaws
 pub mod WordLaws
 pub mod HeldLaws
-pub mod StartLaws
 pub mod AccessLaws
 pub mod LentLaws

@@ -3,101 +3,37 @@ use mathlib.Core.Bool.{Bool, true, false, cond, not, ◌&&◌}
 use mathlib.Core.Path.{◌≡◌, refl, sym, ap, ap₂, subst, ◌∙◌}
 use Prim.Native.Nat.{ℕ, zero, suc, ◌+◌, ◌*◌, ◌%◌}
 use native.Mathlib.Nat.{zero-mul, suc-mul}
-use lib.Dec.{eqb, leb}
-use Rattle.pmc330_model.specs.Schedule.{pass_length, is_single, is_differential}
-use Rattle.pmc330_model.specs.Board.{idle_cycle, with_cycle, lead_after, stored, begun, elapsed, is_store_due, is_beginning_due, stored_in_time, stored_if_due, begun_if_due, ticked, advanced, stores_in}
-use Rattle.pmc330_model.specs.declared.Cycle.{Cycle}
+use lib.Dec.{eqb}
+use Rattle.pmc330_model.specs.Schedule.{is_single, is_differential}
+use Rattle.pmc330_model.specs.Board.{with_cycle, stored, begun, elapsed, is_store_due, is_beginning_due, stored_in_time, stored_if_due, begun_if_due, ticked, advanced, stores_in}
 use Rattle.pmc330_model.specs.declared.Board.{Board}
 use Rattle.pmc330_model.proofs.Schedule.{odd_next}
 use Rattle.pmc330_model.proofs.Theorems.{advanced_add, stores_add}
-use Rattle.pmc330.specs.Steps.{board_with, board_on, turned_cycle, turned_core, IgnoresParity, Unmoved}
+use Rattle.pmc330.specs.Steps.{board_on, turned_cycle, turned_core, IgnoresParity, Unmoved}
 use Rattle.pmc330.specs.declared.cycle.Channels.{Channels}
 use Rattle.pmc330.specs.declared.held.Core.{Core}
 use Rattle.pmc330.specs.declared.stores.Mailboxes.{Mailboxes}
 use Rattle.pmc330.proofs.TimeLaws.{ticked_fixed}
+use native.Mathlib.Omega.{arith}
 
 abbrev pub turned : (turn : Bool) → Board → Board
 turned turn b = with_cycle b (turned_cycle turn b.cycle)
 
--- the cycle with another parity
-abbrev with_odd : Cycle → (odd : Bool) → Cycle
-with_odd c odd =
-    record {
-      running = c.running;
-      lead = c.lead;
-      lag = c.lag;
-      waiting = c.waiting;
-      slot = c.slot;
-      ends = c.ends;
-      index = c.index;
-      odd = odd;
-    }
-
 -- a turn more
 turned_more : (turn : Bool) (b : Board) → turned turn (turned true b) ≡ turned (not turn) b
-turned_more turn b = ap (λ (odd : Bool). with_cycle b (with_odd b.cycle odd)) (go turn b.cycle.odd)
-  where
-    go : (turn odd : Bool) → cond turn (not (not odd)) (not odd) ≡ cond (not turn) (not odd) odd
-    go true true = refl
-    go true false = refl
-    go false odd = refl
+turned_more turn b = grind arith
 
 -- ---- a tick
 
 -- a store does not look at the parity
 stored_turned : (turn : Bool) (b : Board) → is_single b.registers ≡ false → stored_in_time (turned turn b) ≡ turned turn (stored_in_time b)
 unfolding stored
-stored_turned turn b continuous = go (is_single b.registers) continuous
-  where
-    after : Cycle → Cycle
-    after c =
-        record {
-          running = c.running;
-          lead = c.lead;
-          lag = c.lag;
-          waiting = false;
-          slot = c.slot;
-          ends = c.ends;
-          index = c.index;
-          odd = c.odd;
-        }
-
-    go :
-        (single : Bool) → single ≡ false
-        → with_cycle (stored b.cycle.slot b.cycle.ends b) (cond (single && b.cycle.ends) idle_cycle (after (turned_cycle turn b.cycle)))
-        ≡ with_cycle (stored b.cycle.slot b.cycle.ends b) (turned_cycle turn (cond (single && b.cycle.ends) idle_cycle (after b.cycle)))
-    go single e = rw e
+stored_turned turn b continuous = grind arith
 
 -- a beginning puts its conversion into the same slot
 begun_turned : (turn : Bool) (b : Board) → is_differential b.registers ≡ false → begun (turned turn b) ≡ turned turn (begun b)
 unfolding begun
-begun_turned turn b single-ended =
-    ap₂ place (same_slot (is_differential b.registers) single-ended) (same_odd (leb (pass_length b.registers) (b.cycle.index + 1)) turn b.cycle.odd)
-  where
-    -- the board after it, at a slot and with a parity
-    place : ℕ → Bool → Board
-    place shift odd =
-        with_cycle (begun b)
-        (record {
-          running = b.cycle.running;
-          lead = lead_after b.registers (leb (pass_length b.registers) (b.cycle.index + 1));
-          lag = 64;
-          waiting = true;
-          slot = (b.registers.start + b.cycle.index + shift) % 32;
-          ends = leb (pass_length b.registers) (b.cycle.index + 1);
-          index = cond (leb (pass_length b.registers) (b.cycle.index + 1)) 0 (b.cycle.index + 1);
-          odd = odd;
-        })
-
-    same_slot :
-        (differential : Bool) → differential ≡ false
-        → ◌≡◌ {A = ℕ} (cond (differential && cond turn (not b.cycle.odd) b.cycle.odd) 16 0) (cond (differential && b.cycle.odd) 16 0)
-    same_slot differential e = rw e
-
-    same_odd : (ends turn odd : Bool) → cond ends (not (cond turn (not odd) odd)) (cond turn (not odd) odd) ≡ cond turn (not (cond ends (not odd) odd)) (cond ends (not odd) odd)
-    same_odd true true odd = refl
-    same_odd true false odd = refl
-    same_odd false turn odd = refl
+begun_turned turn b h = grind arith
 
 begun_if_turned : (t turn : Bool) (b : Board) → is_differential b.registers ≡ false → cond t (begun (turned turn b)) (turned turn b) ≡ turned turn (cond t (begun b) b)
 begun_if_turned true turn b single-ended = begun_turned turn b single-ended
@@ -169,5 +105,4 @@ pub came_back :
     (turn : Bool) (after before : Core) (channels : Channels) (boxes boxes' : Mailboxes)
     → Unmoved boxes boxes' → after ≡ turned_core turn before
     → board_on after channels boxes' ≡ turned turn (board_on before channels boxes)
-came_back turn after before channels boxes boxes' same core =
-    λ i. board_with (core i) channels.inputs.now channels.gains.now (same.codes i) (same.unread i)
+came_back turn after before channels boxes boxes' same core = grind arith

@@ -12,6 +12,7 @@ use Rattle.pmc330.specs.declared.cycle.Plan.{Plan}
 use Rattle.pmc330.specs.declared.cycle.Scan.{Scan}
 use Rattle.pmc330.specs.declared.held.Core.{Core}
 use Rattle.pmc330.specs.declared.stores.Mailboxes.{Mailboxes}
+use Rattle.pmc330.specs.declared.time.Run.{Run}
 
 -- a board put together again from what stays and what changes as time passes
 abbrev pub board_of : (range : ℕ) → Registers → Channels → Mailboxes → Scan → Board
@@ -51,6 +52,11 @@ board_on c channels boxes = board_with c channels.inputs.now channels.gains.now 
 pub record SameLoan (before after : Mailboxes) : Type 0 where
   pub codes : after.codes.ghost_name ≡ before.codes.ghost_name
   pub unread : after.unread.ghost_name ≡ before.unread.ghost_name
+
+-- a step on a board whose arrays are lent: the board after it
+pub record Becomes (step : Board → Board) (core : Core) (channels : Channels) (boxes : Mailboxes) (next : Core) (after : Mailboxes) : Type 0 where
+  pub board : board_on next channels after ≡ step (board_on core channels boxes)
+  pub loan : SameLoan boxes after
 
 -- the small record that 17 words hold, and its words
 abbrev pub core_in : (words : List ℕ) → Core
@@ -179,14 +185,20 @@ pub record Unmoved (before after : Mailboxes) : Type 0 where
   pub codes : after.codes.now ≡ before.codes.now
   pub unread : after.unread.now ≡ before.unread.now
 
+-- the same two arrays are lent as before, and a change of either is told
+pub record Kept (before after : Mailboxes) : Type 0 where
+  pub loan : SameLoan before after
+  pub unchanged : after.changed ≡ false → Unmoved before after
+
 -- the ticks to the end of a countdown, if one runs, and at most `left`
 abbrev pub step_to : (count left : ℕ) → ℕ
 step_to count left = cond (eqb count 0) left (min count left)
 
--- a board after n ticks, with the stores made in them
-pub record RunOf (n : ℕ) (b next : Board) (stores : ℕ) : Type 0 where
-  pub board : next ≡ advanced n b
-  pub count : stores ≡ stores_in n b
+-- a run of n ticks on a board whose arrays are lent: the board after them, and the stores made in them
+pub record RunOf (n : ℕ) (core : Core) (channels : Channels) (boxes : Mailboxes) (run : Run) (after : Mailboxes) : Type 0 where
+  pub board : board_on run.core channels after ≡ advanced n (board_on core channels boxes)
+  pub count : run.stores ≡ stores_in n (board_on core channels boxes)
+  pub loan : SameLoan boxes after
 
 -- ---- the parity of a pass
 

@@ -1,7 +1,7 @@
 // The steps of a cycle: a conversion begins, and is stored.
 ghost use Rattle.std.specs.Prelude.{◌≡◌, ◌+◌, ◌%◌, ◌<◌};
 ghost use Rattle.pmc330_model.specs.Schedule.{voltage_at, code_at};
-ghost use Rattle.pmc330_model.specs.Board.{lead_after, idle_cycle};
+ghost use Rattle.pmc330_model.specs.Board.{lead_after};
 ghost use Rattle.pmc330.specs.Steps.{plan_of, slot_by, begun_by, stored_by};
 
 use crate::fields;
@@ -21,7 +21,7 @@ pub struct Plan {
     pub start: u8,
     // the place of a pass's last conversion
     pub last_place: u8,
-    // ticks from a beginning to the next one, within a pass and at its end
+    // ticks from a beginning to the next one, within a pass and at its end; 0 for none, as in the cycle's `lead` that they become
     pub step: u32,
     pub last_step: u32,
     pub single: bool,
@@ -29,27 +29,13 @@ pub struct Plan {
 }
 
 // What changes of a board as time passes, but for its mailboxes.
-// Speed: with the whole small record in its place, long and hostile advances took 1.1 to 1.2 times as long.
+// Speed: with the whole small record in its place, long and hostile advances took 1.1 to 1.2 times as long. Made in one place, so
+// no From.
 #[derive(Clone, Copy)]
 pub struct Scan {
     pub pending: bool,
     pub held: u16,
     pub cycle: Cycle,
-}
-
-pub(crate) fn idle_cycle() -> Cycle
-    ensures { result ≡ idle_cycle }
-{
-    Cycle {
-        running: false,
-        lead: 0,
-        lag: 0,
-        waiting: false,
-        slot: 0,
-        ends: false,
-        index: 0,
-        odd: false,
-    }
 }
 
 // The ticks from a beginning to the next one.
@@ -67,54 +53,58 @@ fn lead_after(r: Registers, ends: bool) -> u32
     }
 }
 
-pub(crate) fn plan_of(r: Registers) -> Plan
-    ensures { result ≡ plan_of r }
-{
-    Plan {
-        start: r.start,
-        last_place: r.end.saturating_sub(r.start),
-        step: lead_after(r, false),
-        last_step: lead_after(r, true),
-        single: fields::is_single(r),
-        differential: fields::is_differential(r),
+impl From<Registers> for Plan {
+    ghost from_gives = { λ r plan. plan ≡ plan_of r };
+
+    fn from(r: Registers) -> Plan {
+        Plan {
+            start: r.start,
+            last_place: r.end.saturating_sub(r.start),
+            step: lead_after(r, false),
+            last_step: lead_after(r, true),
+            single: fields::is_single(r),
+            differential: fields::is_differential(r),
+        }
     }
 }
 
-// The slot of the conversion at a place of its pass.
-fn slot_at(p: Plan, index: u8, odd: bool) -> u8
-    ensures { result ≡ slot_by p index odd }
-{
-    let half = if p.differential && odd { 16 } else { 0 };
-    ((u32::from(p.start) + u32::from(index) + half) % 32) as u8
-}
-
-// The cycle after the next conversion has begun.
-pub(crate) fn begun_cycle(p: Plan, c: Cycle) -> Cycle
-    ensures { result ≡ begun_by p c }
-{
-    let ends = p.last_place <= c.index;
-    Cycle {
-        lead: if ends { p.last_step } else { p.step },
-        lag: 64,
-        waiting: true,
-        slot: slot_at(p, c.index, c.odd),
-        ends,
-        index: if ends { 0 } else { c.index + 1 },
-        odd: if ends { !c.odd } else { c.odd },
-        ..c
+impl Plan {
+    // The slot of the conversion at a place of its pass.
+    fn slot_at(self, index: u8, odd: bool) -> u8
+        ensures { result ≡ slot_by self index odd }
+    {
+        let half = if self.differential && odd { 16 } else { 0 };
+        ((u32::from(self.start) + u32::from(index) + half) % 32) as u8
     }
-}
 
-// The cycle after its conversion in progress is stored.
-pub(crate) fn stored_cycle(p: Plan, c: Cycle) -> Cycle
-    ensures { result ≡ stored_by p c }
-{
-    if p.single && c.ends {
-        idle_cycle()
-    } else {
+    // The cycle after the next conversion has begun.
+    pub(crate) fn begun_cycle(self, c: Cycle) -> Cycle
+        ensures { result ≡ begun_by self c }
+    {
+        let ends = self.last_place <= c.index;
         Cycle {
-            waiting: false,
+            lead: if ends { self.last_step } else { self.step },
+            lag: 64,
+            waiting: true,
+            slot: self.slot_at(c.index, c.odd),
+            ends,
+            index: if ends { 0 } else { c.index + 1 },
+            odd: c.odd != ends,
             ..c
+        }
+    }
+
+    // The cycle after its conversion in progress is stored.
+    pub(crate) fn stored_cycle(self, c: Cycle) -> Cycle
+        ensures { result ≡ stored_by self c }
+    {
+        if self.single && c.ends {
+            Cycle::default()
+        } else {
+            Cycle {
+                waiting: false,
+                ..c
+            }
         }
     }
 }

@@ -1,12 +1,13 @@
 // The board but for its four arrays: a small record, and the 17 words that hold it where a board is lent.
 ghost use Rattle.std.specs.Prelude.{not, ◌≡◌, ◌%◌, eqb};
 ghost use Rattle.pmc330_model.specs.Words.{to_bit};
-ghost use Rattle.pmc330_model.specs.Lent.{registers_in, cycle_in, board_in};
+ghost use Rattle.pmc330_model.specs.Lent.{registers_in, cycle_in};
 ghost use Rattle.pmc330.specs.Steps.{core_in, core_of, words_with};
 
 use pmc330_model::{Board, Cycle, Registers};
 
-// The small record of a board, passed by value.
+// The small record of a board, passed by value: a Board would take its arrays along at each step, and with this as a field of
+// it each definition of the model would have to go through it.
 #[derive(Clone, Copy, Debug, PartialEq, Eq)]
 pub struct Core {
     pub range: u8,
@@ -101,29 +102,5 @@ impl From<Core> for [u32; 17] {
             u32::from(c.index),
             u32::from(c.odd),
         ]
-    }
-}
-
-// The board that lent parts hold: five parts, so no From.
-pub(crate) fn put_together(
-    words: &[u32; 17],
-    inputs: [i32; 32],
-    gains: [u8; 32],
-    codes: [u16; 32],
-    unread: [u8; 32],
-) -> Board
-    ensures { result ≡ board_in words.now inputs gains codes unread }
-{
-    let core = Core::from(words);
-    Board {
-        range: core.range,
-        inputs,
-        gains,
-        codes,
-        unread,
-        pending: core.pending,
-        registers: core.registers,
-        held: core.held,
-        cycle: core.cycle,
     }
 }

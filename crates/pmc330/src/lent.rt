@@ -2,8 +2,10 @@
 // What a call changes is lent for change; the rest of the board is lent to be read, but for a look and a clear, which are
 // lent no more than they need. The arrays are parameters of their own, since C lends each for reading or for change.
 // Widths, offsets, ticks and the like are any numbers that C hands over, and a wrong one is refused.
+#![tactic(auto, using(crate::proofs::HeldLaws::core_back, crate::proofs::QuestionLaws::slot_low), unfolding(pmc330_model::specs::Questions::call_questions, pmc330_model::specs::Board::after_call, pmc330_model::specs::Board::value_of_call, pmc330_model::specs::Board::board_call, analog::specs::Answers::asked, analog::specs::Answers::answered, analog::specs::Answers::first_no))]
+
 ghost use Rattle.std.specs.Prelude.{◌&&◌, cond, not, List, ◌≡◌, ℕ, ℤ, set};
-ghost use Rattle.pmc330_model.specs.Board.{idle_cycle, after_write, read_call, write_call, input_call, advance_call, trigger_call, reset_call, look_call, clear_call, request_line, next_store, if_any};
+ghost use Rattle.pmc330_model.specs.Board.{after_write, read_call, write_call, input_call, advance_call, trigger_call, reset_call, look_call, clear_call, request_line, next_store, if_any};
 ghost use Rattle.pmc330_model.specs.Map.{if_mailbox};
 ghost use Rattle.pmc330_model.specs.Lent.{board_in, words_after, open_call};
 ghost use Rattle.pmc330.specs.Steps.{board_with};
@@ -12,9 +14,10 @@ use crate::cycle::Channels;
 use crate::held::Core;
 use crate::questions::Access;
 use crate::stores::Mailboxes;
-use crate::{cycle, questions, starts, time, upcoming, words as map_words};
-use analog::{Answer, Refusal};
-use pmc330_model::Register;
+use crate::words::WordWrite;
+use crate::{questions, starts, time, upcoming, words as map_words};
+use analog::Answer;
+use pmc330_model::{Cycle, Register};
 
 // A new board of a range, in place of what was lent. A refusal leaves that.
 pub fn new(
@@ -29,9 +32,7 @@ pub fn new(
     ensures board { board_in words.new inputs.new gains.new codes.new unread.new ≡ (open_call (board_in words.old inputs.old gains.old codes.old unread.old) range).board }
     ensures words { words.new ≡ words_after (open_call (board_in words.old inputs.old gains.old codes.old unread.old) range) words.old }
 {
-    if 3 < range {
-        return Err(Refusal::BadRange);
-    }
+    questions::of_range(range)?;
     *words = [0; 17];
     words[0] = range;
     *inputs = [0; 32];
@@ -72,32 +73,32 @@ pub fn read(
     let core = Core::from(words);
     let word = map_words::read_word(core.registers, core.pending, gains, codes, unread, register);
     after_read(unread, register);
-    Ok(map_words::read_bytes(access.width, offset, word))
+    Ok(access.read_bytes(word))
 }
 
-// An accepted write of a word. The codes stay, whatever they are.
+// An accepted write of a word. The arrays are parameters, since C lends each by itself. The codes stay, whatever they are.
+#[tactic(auto, unfolding(pmc330_model::specs::Board::after_write))]
 fn after_write(
     core: Core,
     inputs: &[i32; 32],
     gains: &mut [u8; 32],
     unread: &mut [u8; 32],
-    register: Register,
-    word: u16,
+    write: WordWrite,
 ) -> Core
-    ensures { (codes : List ℕ) → board_with result inputs.now gains.new codes unread.new ≡ after_write register word (board_with core inputs.now gains.old codes unread.old) }
+    ensures { (codes : List ℕ) → board_with result inputs.now gains.new codes unread.new ≡ after_write write.register write.word (board_with core inputs.now gains.old codes unread.old) }
 {
-    map_words::gains_with(gains, register, word);
+    write.set_gains(gains);
     let next = Core {
-        registers: map_words::with_word(register, word, core.registers),
-        pending: core.pending && !map_words::is_release(register, word),
-        cycle: if map_words::is_stop(register, word) {
-            cycle::idle_cycle()
+        registers: write.registers_after(core.registers),
+        pending: core.pending && !write.is_release(),
+        cycle: if write.is_stop() {
+            Cycle::default()
         } else {
             core.cycle
         },
         ..core
     };
-    if map_words::is_start(register, word) {
+    if write.is_start() {
         return starts::started(next, Channels { inputs, gains }, unread);
     }
     next
@@ -119,16 +120,13 @@ pub fn write(
     ensures words { words.new ≡ words_after (write_call (board_in words.old inputs.now gains.old codes.now unread.old) width offset value) words.old }
 {
     let access = Access::of(width, offset)?;
-    let register = access.register;
     let core = Core::from(&*words);
     let r = core.registers;
-    let old = map_words::held_word(r, gains, register);
-    let word = map_words::written_word(access.width, offset, value, old);
-    let resulting = map_words::with_word(register, word, r);
+    let write = access.word_write(r, gains, value);
     questions::of_value(access.width, value)?;
     let idle = !core.cycle.running;
-    questions::of_word(r, idle, register, word, resulting)?;
-    let next = after_write(core, inputs, gains, unread, register, word);
+    questions::of_word(r, idle, write)?;
+    let next = after_write(core, inputs, gains, unread, write);
     *words = next.into();
     Ok(0)
 }
@@ -167,11 +165,7 @@ pub fn advance(
     questions::of_advance(ticks)?;
     let core = Core::from(&*words);
     let channels = Channels { inputs, gains };
-    let mut boxes = Mailboxes {
-        codes,
-        unread,
-        changed: false,
-    };
+    let mut boxes = Mailboxes::lent(codes, unread);
     let run = time::advance_by(core, channels, &mut boxes, ticks);
     *words = run.core.into();
     Ok(run.stores)
@@ -191,17 +185,14 @@ pub fn trigger(
 {
     let core = Core::from(&*words);
     let channels = Channels { inputs, gains };
-    let mut boxes = Mailboxes {
-        codes,
-        unread,
-        changed: false,
-    };
+    let mut boxes = Mailboxes::lent(codes, unread);
     let next = starts::triggered(core, channels, &mut boxes);
     *words = next.into();
     Ok(0) // a trigger is asked nothing
 }
 
-// A reset keeps the range and the inputs.
+// A reset keeps the range and the inputs. Tried, one function that clears the rest, for this and `new`, has five parameters, and
+// is longer than the lines that it saves.
 pub fn reset(
     words: &mut [u32; 17],
     inputs: &[i32; 32],
@@ -250,6 +241,7 @@ pub fn request_line(words: &[u32; 17]) -> bool
 }
 
 // The ticks to the next store if only time passes, if one is to come. The arrays do not matter.
+#[tactic(auto, using(pmc330_model::proofs::NextStores::next_is))]
 pub fn next_store(words: &[u32; 17]) -> Option<u32>
     ensures { (inputs : List ℤ) (gains codes unread : List ℕ) → result ≡ if_any (next_store (board_in words.now inputs gains codes unread)) }
 {

@@ -1,5 +1,5 @@
 // The board's calls, by value. Each is equal to its definition in pmc330_model: a board is taken apart, the call made in place,
-// and the board put together. Each call is the same three steps, for which a closure would be no shorter.
+// and the board put together. Widths, offsets and the like are any numbers: a wrong one is refused, as C's is.
 #![tactic(auto)]
 
 mod cycle;
@@ -18,10 +18,25 @@ mod widths;
 mod words;
 
 ghost use Rattle.std.specs.Prelude.{◌≡◌};
+ghost use Rattle.std.specs.Fn.{FnOnceReturnsAtMut};
 ghost use Rattle.pmc330_model.specs.Board.{read_call, write_call, input_call, advance_call, trigger_call, reset_call, look_call, clear_call, new_call, request_line, next_store, if_any};
 
+use analog::Answer;
 use parts::Parts;
 use pmc330_model::{Board, Look, Reply};
+
+// A board taken apart, a call made on the parts, and the board put together.
+fn stepped<F: FnOnce(&mut Parts) -> Answer>(b: Board, call: F) -> Reply
+    requires { F.IsAlwaysCallable call }
+    ensures { FnOnceReturnsAtMut F.FnOnce call b result.answer result.board }
+{
+    let mut parts = Parts::from(b);
+    let answer = call(&mut parts);
+    Reply {
+        board: Board::from(&parts),
+        answer,
+    }
+}
 
 // A new board of a range.
 pub fn new(range: u32) -> Reply
@@ -30,7 +45,7 @@ pub fn new(range: u32) -> Reply
     let mut parts = Parts::default();
     let answer = parts.open(range);
     Reply {
-        board: parts.board(),
+        board: Board::from(&parts),
         answer,
     }
 }
@@ -39,75 +54,46 @@ pub fn new(range: u32) -> Reply
 pub fn read(b: Board, width: u32, offset: u32) -> Reply
     ensures { result ≡ read_call b width offset }
 {
-    let mut parts = Parts::from(b);
-    let answer = parts.read(width, offset);
-    Reply {
-        board: parts.board(),
-        answer,
-    }
+    stepped(b, |parts| parts.read(width, offset))
 }
 
 // A register write.
 pub fn write(b: Board, width: u32, offset: u32, value: u32) -> Reply
     ensures { result ≡ write_call b width offset value }
 {
-    let mut parts = Parts::from(b);
-    let answer = parts.write(width, offset, value);
-    Reply {
-        board: parts.board(),
-        answer,
-    }
+    stepped(b, |parts| parts.write(width, offset, value))
 }
 
 // A channel's input changes.
 pub fn input(b: Board, channel: u32, microvolts: i32) -> Reply
     ensures { result ≡ input_call b channel microvolts }
 {
-    let mut parts = Parts::from(b);
-    let answer = parts.input(channel, microvolts);
-    Reply {
-        board: parts.board(),
-        answer,
-    }
+    stepped(b, |parts| parts.input(channel, microvolts))
 }
 
 // Time passes.
 pub fn advance(b: Board, ticks: u32) -> Reply
     ensures { result ≡ advance_call b ticks }
 {
-    let mut parts = Parts::from(b);
-    let answer = parts.advance(ticks);
-    Reply {
-        board: parts.board(),
-        answer,
-    }
+    stepped(b, |parts| parts.advance(ticks))
 }
 
 // An external trigger.
 pub fn trigger(b: Board) -> Reply
     ensures { result ≡ trigger_call b }
 {
-    let mut parts = Parts::from(b);
-    let answer = parts.trigger();
-    Reply {
-        board: parts.board(),
-        answer,
-    }
+    stepped(b, |parts| parts.trigger())
 }
 
 // A reset keeps the range and the inputs.
 pub fn reset(b: Board) -> Reply
     ensures { result ≡ reset_call b }
 {
-    let mut parts = Parts::from(b);
-    let answer = parts.reset();
-    Reply {
-        board: parts.board(),
-        answer,
-    }
+    stepped(b, |parts| parts.reset())
 }
 
 // A look at a slot: its code, and its New and Missed bits. It changes nothing.
+#[tactic(auto, using(pmc330_model::proofs::Looks::looks_change_nothing))]
 pub fn look(b: Board, slot: u32) -> Look
     ensures { result ≡ look_call b slot }
 {
@@ -119,12 +105,7 @@ pub fn look(b: Board, slot: u32) -> Look
 pub fn clear(b: Board, slot: u32) -> Reply
     ensures { result ≡ clear_call b slot }
 {
-    let mut parts = Parts::from(b);
-    let answer = parts.clear(slot);
-    Reply {
-        board: parts.board(),
-        answer,
-    }
+    stepped(b, |parts| parts.clear(slot))
 }
 
 // The request line: enable and pending.

@@ -5,7 +5,7 @@ ghost use Rattle.pmc330_model.specs.Board.{new_board, read_call, write_call, inp
 ghost use Rattle.pmc330_model.specs.Lent.{open_call};
 
 use crate::held::Core;
-use crate::{held, lent};
+use crate::lent;
 use analog::Answer;
 use pmc330_model::Board;
 use std::marker::Model;
@@ -31,7 +31,9 @@ impl Model for Parts {
 impl From<Board> for Parts {
     ghost from_gives = { λ b p. p ≡ b };
 
+    #[tactic(auto, using(crate::proofs::HeldLaws::words_back))]
     fn from(b: Board) -> Parts {
+        // by variables: tried without, and the check does not cover an array that a literal takes out of a record by value
         let words = Core::from(b).into();
         let inputs = b.inputs;
         let gains = b.gains;
@@ -47,8 +49,27 @@ impl From<Board> for Parts {
     }
 }
 
+impl From<&Parts> for Board {
+    ghost from_gives = { λ p b. b ≡ p.now };
+
+    fn from(p: &Parts) -> Board {
+        let core = Core::from(&p.words);
+        Board {
+            range: core.range,
+            inputs: p.inputs,
+            gains: p.gains,
+            codes: p.codes,
+            unread: p.unread,
+            pending: core.pending,
+            registers: core.registers,
+            held: core.held,
+            cycle: core.cycle,
+        }
+    }
+}
+
+// By hand: a derived one promises its fields, and each caller would need a law that they are a new board.
 impl Default for Parts {
-    // a new board of range 0
     ghost is_default = { λ p. p ≡ new_board 0 };
 
     fn default() -> Self {
@@ -75,19 +96,6 @@ impl Parts {
             &mut self.codes,
             &mut self.unread,
             range,
-        )
-    }
-
-    // The board as one record.
-    pub fn board(&self) -> Board
-        ensures { result ≡ self.now }
-    {
-        held::put_together(
-            &self.words,
-            self.inputs,
-            self.gains,
-            self.codes,
-            self.unread,
         )
     }
 

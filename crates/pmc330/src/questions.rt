@@ -3,44 +3,48 @@
 
 ghost use Rattle.std.specs.Prelude.{◌≡◌, ◌^◌, ltb, leb, [], ◌∷◌, MatchResult};
 ghost use Rattle.analog.specs.Answers.{question, asked};
-ghost use Rattle.analog.specs.declared.Refusal.TheVariants.{BadValue, BadDirection, BadTicks};
+ghost use Rattle.analog.specs.declared.Refusal.TheVariants.{BadValue, BadDirection, BadTicks, BadRange};
 ghost use Rattle.pmc330_model.specs.Map.{class_of, is_readable, is_writable};
-ghost use Rattle.pmc330_model.specs.Questions.{is_aligned, is_allowed, has_used_codes, is_valid, has_channels, has_interval, start_questions, access_questions, word_questions, is_input, input_questions, slot_questions};
+ghost use Rattle.pmc330_model.specs.Questions.{is_allowed, has_used_codes, is_valid, has_channels, has_interval, start_questions, access_questions, word_questions, is_input, input_questions, slot_questions};
+ghost use Rattle.pmc330_model.specs.Words.{with_word};
 ghost use Rattle.pmc330.specs.Widths.{bits_of, IsAccess};
 
-use super::fields::{Acquisition, InterruptOn, ScanMode, Trigger};
-use super::widths::Width;
-use super::{fields, map, words};
+use crate::fields::{Acquisition, InterruptOn, ScanMode, Trigger};
+use crate::widths::Width;
+use crate::words::WordWrite;
+use crate::{fields, map};
 use analog::Refusal;
 use pmc330_model::{Register, Registers};
 
-// A read or a write of which questions 1 to 3 are met: its width, and the register at its offset.
+// A read or a write of which questions 1 to 3 are met, and the register at its offset.
 #[derive(Clone, Copy)]
 pub(crate) struct Access {
     pub width: Width,
+    pub offset: u32,
     pub register: Register,
 }
 
-fn is_aligned(width: Width, offset: u32) -> bool
-    ensures { result ≡ is_aligned (bits_of width) offset }
+// One question of a call: a no refuses it.
+fn ask(met: bool, refusal: Refusal) -> Result<(), Refusal>
+    ensures { result ≡ asked (question refusal met ∷ []) }
 {
-    offset < 256 && offset % width.bytes() == 0
+    if met { Ok(()) } else { Err(refusal) }
 }
 
 impl Access {
-    // Questions 1 to 3.
+    // Questions 1 to 3, of any numbers: here they become a width and a register.
     pub(crate) fn of(width: u32, offset: u32) -> Result<Self, Refusal>
         ensures { MatchResult result (IsAccess width offset) (λ refusal. asked (access_questions width offset (class_of offset)) ≡ Err refusal) }
     {
         let width = Width::try_from(width)?;
-        if !is_aligned(width, offset) {
-            return Err(Refusal::BadOffset);
-        }
+        ask(width.is_aligned(offset), Refusal::BadOffset)?;
         let register = map::register_at(offset);
-        if matches!(register, Register::Unmapped) {
-            return Err(Refusal::Unmapped);
-        }
-        Ok(Access { width, register })
+        ask(!matches!(register, Register::Unmapped), Refusal::Unmapped)?;
+        Ok(Access {
+            width,
+            offset,
+            register,
+        })
     }
 }
 
@@ -61,13 +65,13 @@ fn is_writable(register: Register) -> bool
 }
 
 // Question 6.
-fn is_allowed(idle: bool, register: Register, word: u16, resulting: Registers) -> bool
-    ensures { result ≡ is_allowed idle register word resulting }
+fn is_allowed(idle: bool, write: WordWrite, resulting: Registers) -> bool
+    ensures { result ≡ is_allowed idle write.register write.word resulting }
 {
-    idle || match register {
+    idle || match write.register {
         Register::Interrupt => true,
         Register::Control => fields::is_off(resulting),
-        Register::StartConvert => word % 2 == 0,
+        Register::StartConvert => !write.is_start(),
         _ => false,
     }
 }
@@ -117,58 +121,34 @@ pub(crate) fn has_interval(r: Registers) -> bool
 pub(crate) fn of_read(register: Register) -> Result<(), Refusal>
     ensures { result ≡ asked (question BadDirection (is_readable register) ∷ []) }
 {
-    if !is_readable(register) {
-        return Err(Refusal::BadDirection);
-    }
-    Ok(())
+    ask(is_readable(register), Refusal::BadDirection)
 }
 
 // Questions 8 to 10.
 fn of_start(r: Registers) -> Result<(), Refusal>
     ensures { result ≡ asked (start_questions r) }
 {
-    if fields::is_off(r) {
-        return Err(Refusal::NoScan);
-    }
-    if !has_channels(r) {
-        return Err(Refusal::BadChannels);
-    }
-    if !has_interval(r) {
-        return Err(Refusal::BadInterval);
-    }
-    Ok(())
+    ask(!fields::is_off(r), Refusal::NoScan)?;
+    ask(has_channels(r), Refusal::BadChannels)?;
+    ask(has_interval(r), Refusal::BadInterval)
 }
 
 // Question 4.
 pub(crate) fn of_value(width: Width, value: u32) -> Result<(), Refusal>
     ensures { result ≡ asked (question BadValue (ltb value (2 ^ bits_of width)) ∷ []) }
 {
-    if width.numbers() <= u64::from(value) {
-        return Err(Refusal::BadValue);
-    }
-    Ok(())
+    ask(u64::from(value) < width.numbers(), Refusal::BadValue)
 }
 
 // Questions 5 to 10 of a write.
-pub(crate) fn of_word(
-    r: Registers,
-    idle: bool,
-    register: Register,
-    word: u16,
-    resulting: Registers,
-) -> Result<(), Refusal>
-    ensures { result ≡ asked (word_questions r idle register word resulting) }
+pub(crate) fn of_word(r: Registers, idle: bool, write: WordWrite) -> Result<(), Refusal>
+    ensures { result ≡ asked (word_questions r idle write.register write.word (with_word write.register write.word r)) }
 {
-    if !is_writable(register) {
-        return Err(Refusal::BadDirection);
-    }
-    if !is_allowed(idle, register, word, resulting) {
-        return Err(Refusal::Busy);
-    }
-    if !is_valid(register, resulting) {
-        return Err(Refusal::BadCode);
-    }
-    if words::is_start(register, word) {
+    let resulting = write.registers_after(r);
+    ask(is_writable(write.register), Refusal::BadDirection)?;
+    ask(is_allowed(idle, write, resulting), Refusal::Busy)?;
+    ask(is_valid(write.register, resulting), Refusal::BadCode)?;
+    if write.is_start() {
         return of_start(r);
     }
     Ok(())
@@ -178,38 +158,37 @@ pub(crate) fn of_word(
 fn is_input(microvolts: i32) -> bool
     ensures { result ≡ is_input microvolts }
 {
-    -35_000_000 <= microvolts && microvolts <= 55_000_000
+    (-35_000_000..=55_000_000).contains(&microvolts)
 }
 
 // Questions 11 and 12.
 pub(crate) fn of_input(channel: u32, microvolts: i32) -> Result<(), Refusal>
     ensures { result ≡ asked (input_questions channel microvolts) }
 {
-    if 31 < channel {
-        return Err(Refusal::BadChannel);
-    }
-    if !is_input(microvolts) {
-        return Err(Refusal::BadVoltage);
-    }
-    Ok(())
+    ask(channel <= 31, Refusal::BadChannel)?;
+    ask(is_input(microvolts), Refusal::BadVoltage)
 }
+
+// The most ticks that one advance takes.
+pub(crate) const MOST_TICKS: u32 = 16_777_216;
 
 // Question 13.
 pub(crate) fn of_advance(ticks: u32) -> Result<(), Refusal>
     ensures { result ≡ asked (question BadTicks (leb ticks 16_777_216) ∷ []) }
 {
-    if 16_777_216 < ticks {
-        return Err(Refusal::BadTicks);
-    }
-    Ok(())
+    ask(ticks <= MOST_TICKS, Refusal::BadTicks)
+}
+
+// Question 14.
+pub(crate) fn of_range(range: u32) -> Result<(), Refusal>
+    ensures { result ≡ asked (question BadRange (leb range 3) ∷ []) }
+{
+    ask(range <= 3, Refusal::BadRange)
 }
 
 // Question 22.
 pub(crate) fn of_slot(slot: u32) -> Result<(), Refusal>
     ensures { result ≡ asked (slot_questions slot) }
 {
-    if 31 < slot {
-        return Err(Refusal::BadSlot);
-    }
-    Ok(())
+    ask(slot <= 31, Refusal::BadSlot)
 }

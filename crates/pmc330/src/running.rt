@@ -1,9 +1,8 @@
 // A running cycle from event to event.
 ghost use Rattle.std.specs.Prelude.{◌&&◌, cond, false, ◌≡◌};
 ghost use Rattle.pmc330_model.specs.Jumps.{elapsed_by, jumped};
-ghost use Rattle.pmc330.specs.Steps.{plan_of, board_of, begun_scan, SameLoan, Unmoved};
+ghost use Rattle.pmc330.specs.Steps.{plan_of, board_of, begun_scan, Kept};
 
-use crate::cycle;
 use crate::cycle::{Channels, Plan, Scan};
 use crate::stores::Mailboxes;
 use pmc330_model::{Cycle, Registers};
@@ -37,7 +36,7 @@ impl Running {
         Running {
             range,
             registers,
-            plan: cycle::plan_of(registers),
+            plan: Plan::from(registers),
         }
     }
 
@@ -50,16 +49,16 @@ impl Running {
         }
         Scan {
             held: channels.taken_code(self.range, self.registers, s.cycle.index),
-            cycle: cycle::begun_cycle(self.plan, s.cycle),
+            cycle: self.plan.begun_cycle(s.cycle),
             ..s
         }
     }
 
     // n ticks, of which only the last may hold an event: a store, then a beginning.
+    #[tactic(auto, unfolding(pmc330_model::specs::Board::stored, pmc330_model::specs::Board::begun))]
     pub(crate) fn jump(self, channels: Channels, boxes: &mut Mailboxes, s: Scan, n: u32) -> Scan
         ensures board { board_of self.range self.registers channels.entry boxes.new result ≡ jumped n (board_of self.range self.registers channels.entry boxes.old s) }
-        ensures unchanged { boxes.new.changed ≡ false → Unmoved boxes.old boxes.new }
-        ensures loan { SameLoan boxes.old boxes.new }
+        ensures kept { Kept boxes.old boxes.new }
     {
         let c = s.cycle;
         let passed = Scan {

@@ -1,17 +1,17 @@
-// A cycle begins, by Start Convert or by a trigger.
+// A cycle begins, by Start Convert or by a trigger. Core, channels and boxes are three parameters, as in `time`.
 ghost use Rattle.std.specs.Prelude.{◌&&◌, cond, List, ◌≡◌, ℕ, ◌+◌, ◌%◌, min, eqb, get_or, set};
 ghost use Rattle.pmc330_model.specs.Schedule.{interval, is_uniform, is_timed, is_trigger_only, formatted_by};
 ghost use Rattle.pmc330_model.specs.Questions.{has_channels, has_interval};
 ghost use Rattle.pmc330_model.specs.Board.{fresh_cycle, started, trigger_taken, armed_by_trigger, triggered};
-ghost use Rattle.pmc330.specs.Steps.{board_with, board_on, begun_core, stored_core, SameLoan};
+ghost use Rattle.pmc330.specs.Steps.{board_with, begun_core, stored_core, SameLoan, Becomes};
 
-use crate::cycle::Channels;
+use crate::cycle::{Channels, Plan};
 use crate::held::Core;
 use crate::stores::Mailboxes;
-use crate::{cycle, fields, questions, stores};
+use crate::{fields, questions, stores};
 use pmc330_model::{Cycle, Registers};
 
-// The next conversion begins.
+// The next conversion begins. This and `stored` stand beside the steps of a `Scan`, which is smaller for speed.
 fn begun(core: Core, channels: Channels) -> Core
     ensures { result ≡ begun_core core channels.entry.inputs.now channels.entry.gains.now }
 {
@@ -19,7 +19,7 @@ fn begun(core: Core, channels: Channels) -> Core
     let c = core.cycle;
     Core {
         held: channels.taken_code(core.range, r, c.index),
-        cycle: cycle::begun_cycle(cycle::plan_of(r), c),
+        cycle: Plan::from(r).begun_cycle(c),
         ..core
     }
 }
@@ -50,11 +50,12 @@ fn fresh_cycle(r: Registers) -> Cycle
         } else {
             0
         },
-        ..cycle::idle_cycle()
+        ..Cycle::default()
     }
 }
 
 // A cycle starts: all New and Missed bits clear. The codes stay, whatever they are.
+#[tactic(auto, unfolding(pmc330_model::specs::Board::started, pmc330_model::specs::Board::begun))]
 pub(crate) fn started(core: Core, channels: Channels, unread: &mut [u8; 32]) -> Core
     ensures { (codes : List ℕ) → board_with result channels.entry.inputs.now channels.entry.gains.now codes unread.new ≡ started (board_with core channels.entry.inputs.now channels.entry.gains.now codes unread.old) }
 {
@@ -70,9 +71,9 @@ pub(crate) fn started(core: Core, channels: Channels, unread: &mut [u8; 32]) -> 
 }
 
 // A trigger that is taken: its store first, then its code.
+#[tactic(auto, unfolding(pmc330_model::specs::Board::begun, pmc330_model::specs::Board::stored))]
 fn taken(core: Core, channels: Channels, boxes: &mut Mailboxes) -> Core
-    ensures loan { SameLoan boxes.old boxes.new }
-    ensures board { board_on result channels.entry boxes.new ≡ trigger_taken (board_on core channels.entry boxes.old) }
+    ensures { Becomes trigger_taken core channels.entry boxes.old result boxes.new }
 {
     let c = core.cycle;
     if c.waiting {
@@ -84,8 +85,7 @@ fn taken(core: Core, channels: Channels, boxes: &mut Mailboxes) -> Core
 
 // A trigger on a running board.
 fn triggered_running(core: Core, channels: Channels, boxes: &mut Mailboxes) -> Core
-    ensures loan { SameLoan boxes.old boxes.new }
-    ensures board { board_on result channels.entry boxes.new ≡ cond (is_trigger_only core.registers && eqb core.cycle.lag 0) (trigger_taken (board_on core channels.entry boxes.old)) (board_on core channels.entry boxes.old) }
+    ensures { Becomes (λ b. cond (is_trigger_only b.registers && eqb b.cycle.lag 0) (trigger_taken b) b) core channels.entry boxes.old result boxes.new }
 {
     if fields::is_trigger_only(core.registers) && core.cycle.lag == 0 {
         return taken(core, channels, boxes);
@@ -95,9 +95,9 @@ fn triggered_running(core: Core, channels: Channels, boxes: &mut Mailboxes) -> C
 
 // A trigger on an idle board in external trigger only (02, A4), ignored if question 9 is not met: the code last taken goes into
 // the Start Channel's slot, then the armed cycle takes its first.
+#[tactic(auto, unfolding(pmc330_model::specs::Board::begun, pmc330_model::specs::Board::stored))]
 fn triggered_unarmed(core: Core, channels: Channels, boxes: &mut Mailboxes) -> Core
-    ensures loan { SameLoan boxes.old boxes.new }
-    ensures board { board_on result channels.entry boxes.new ≡ cond (has_channels core.registers) (armed_by_trigger (board_on core channels.entry boxes.old)) (board_on core channels.entry boxes.old) }
+    ensures { Becomes (λ b. cond (has_channels b.registers) (armed_by_trigger b) b) core channels.entry boxes.old result boxes.new }
 {
     let r = core.registers;
     if !questions::has_channels(r) {
@@ -123,9 +123,9 @@ fn triggered_idle(core: Core, channels: Channels, unread: &mut [u8; 32]) -> Core
 }
 
 // A trigger: taken, the beginning of a cycle, or ignored.
+#[tactic(auto, unfolding(pmc330_model::specs::Board::triggered))]
 pub(crate) fn triggered(core: Core, channels: Channels, boxes: &mut Mailboxes) -> Core
-    ensures loan { SameLoan boxes.old boxes.new }
-    ensures board { board_on result channels.entry boxes.new ≡ triggered (board_on core channels.entry boxes.old) }
+    ensures { Becomes triggered core channels.entry boxes.old result boxes.new }
 {
     let r = core.registers;
     if !fields::takes_triggers(r) {

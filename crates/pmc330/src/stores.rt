@@ -1,16 +1,15 @@
 // A store: the code goes into its mailbox and is counted.
 ghost use Rattle.std.specs.Prelude.{cond, false, ◌≡◌, ◌+◌, ◌%◌, min, get_or, set};
 ghost use Rattle.pmc330_model.specs.Schedule.{formatted_by};
-ghost use Rattle.pmc330.specs.Steps.{stored_scan, stored_codes, stored_unread, SameLoan, Unmoved};
+ghost use Rattle.pmc330.specs.Steps.{stored_scan, stored_codes, stored_unread, Kept};
 
 use crate::cycle::Scan;
+use crate::fields;
 use crate::running::Running;
-use crate::{cycle, fields};
 use pmc330_model::Registers;
 
 // What stores write, of each slot: its code, and how many stores were not read. That a call gives both references back is a
-// clause of its own (SameLoan): a struct that holds a `&mut` has no model that could say it.
-// No constructor: tried, and with it the proofs of an advance and a trigger did not close as they stand.
+// clause (SameLoan), as the kit asks of each: tried as a model, the lists that were lent were not known after it.
 #[derive(Drop)]
 pub struct Mailboxes<'a> {
     pub codes: &'a mut [u16; 32],
@@ -26,13 +25,24 @@ pub(crate) fn formatted_by(r: Registers, code: u16) -> u16
     analog::formatted(fields::is_straight(r.control), code)
 }
 
-impl Mailboxes<'_> {
+impl<'a> Mailboxes<'a> {
+    // The mailboxes that are lent; no store has changed them yet.
+    pub(crate) fn lent(codes: &'a mut [u16; 32], unread: &'a mut [u8; 32]) -> Self
+        ensures loan { (result.codes.ghost_name ≡ codes.entry.ghost_name) × (result.unread.ghost_name ≡ unread.entry.ghost_name) }
+        ensures values { (result.codes.now ≡ codes.old) × (result.unread.now ≡ unread.old) }
+    {
+        Mailboxes {
+            codes,
+            unread,
+            changed: false,
+        }
+    }
+
     // The code into the mailbox of a slot. The count stands still at 2.
     pub(crate) fn put(&mut self, slot: u8, code: u16)
         ensures codes { self.new.codes.now ≡ set self.old.codes.now (slot % 32) code }
         ensures unread { self.new.unread.now ≡ set self.old.unread.now (slot % 32) (min 2 (get_or self.old.unread.now (slot % 32) 0 + 1)) }
-        ensures unchanged { self.new.changed ≡ false → Unmoved self.old self.new }
-        ensures loan { SameLoan self.old self.new }
+        ensures kept { Kept self.old self.new }
     {
         let at = usize::from(slot % 32);
         let old = self.codes[at];
@@ -48,8 +58,7 @@ impl Mailboxes<'_> {
         ensures scan { result ≡ cond due (stored_scan running.registers s) s }
         ensures codes { self.new.codes.now ≡ cond due (stored_codes running.registers s self.old.codes.now) self.old.codes.now }
         ensures unread { self.new.unread.now ≡ cond due (stored_unread s self.old.unread.now) self.old.unread.now }
-        ensures unchanged { self.new.changed ≡ false → Unmoved self.old self.new }
-        ensures loan { SameLoan self.old self.new }
+        ensures kept { Kept self.old self.new }
     {
         if !due {
             return s;
@@ -59,7 +68,7 @@ impl Mailboxes<'_> {
         self.put(c.slot, formatted_by(r, s.held));
         Scan {
             pending: s.pending || fields::is_interrupting(r, c.ends),
-            cycle: cycle::stored_cycle(running.plan, c),
+            cycle: running.plan.stored_cycle(c),
             ..s
         }
     }

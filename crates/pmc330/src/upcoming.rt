@@ -3,8 +3,9 @@ ghost use Rattle.std.specs.Prelude.{◌≡◌};
 ghost use Rattle.pmc330_model.specs.Jumps.{is_store_next, is_crowded, store_after_beginning, ticks_to_store, ticks_to_next_store};
 ghost use Rattle.pmc330_model.specs.Board.{if_any};
 
+use crate::fields;
 use crate::held::Core;
-use crate::{fields, time};
+use crate::questions::MOST_TICKS;
 use pmc330_model::{Cycle, Registers};
 
 // Whether the conversion in progress is stored before another begins.
@@ -53,9 +54,9 @@ fn ticks_to_store(r: Registers, c: Cycle) -> Option<u64>
 pub(crate) fn ticks_to_next_store(core: Core) -> Option<u32>
     ensures { result ≡ if_any (ticks_to_next_store core.registers core.cycle) }
 {
-    if !time::is_in_time(core) {
+    if !core.is_in_time() {
         return None;
     }
     let ticks = ticks_to_store(core.registers, core.cycle)?;
-    u32::try_from(ticks).ok().filter(|&n| n <= 16_777_216)
+    u32::try_from(ticks).ok().filter(|&n| n <= MOST_TICKS)
 }

@@ -1,5 +1,6 @@
 // The three widths of an access.
 ghost use Rattle.std.specs.Prelude.{◌≡◌, ◌/◌, ◌%◌, ◌^◌, eqb};
+ghost use Rattle.pmc330_model.specs.Questions.{is_aligned};
 ghost use Rattle.pmc330.specs.Widths.{bits_of, width_of};
 
 use analog::Refusal;
@@ -36,6 +37,13 @@ impl Width {
             Width::Half => 2,
             Width::Word => 4,
         }
+    }
+
+    // Question 2.
+    pub(crate) fn is_aligned(self, offset: u32) -> bool
+        ensures { result ≡ is_aligned (bits_of self) offset }
+    {
+        offset < 256 && offset % self.bytes() == 0
     }
 
     // How many numbers it has.

@@ -4,7 +4,8 @@ ghost use Rattle.pmc330_model.specs.Words.{joined, to_bit, held_word, read_word,
 ghost use Rattle.pmc330.specs.Steps.{view_in};
 ghost use Rattle.pmc330.specs.Widths.{bits_of};
 
-use crate::widths::Width;
+use crate::fields::ScanMode;
+use crate::questions::Access;
 use pmc330_model::{Register, Registers};
 
 // A word of digits to a base, the first one lowest.
@@ -34,7 +35,8 @@ fn flag_word(unread: &[u8; 32], half: u8, least: u8) -> u32
     }
 }
 
-// A word of a group of eight gains.
+// A word of a group of eight gains. Tried as one function with `flag_word`: it takes base, count and digit besides, needs a
+// requires, and is no shorter.
 fn gain_word(gains: &[u8; 32], group: u8) -> u32
     ensures { result ≡ joined 4 (λ i. get_or gains.now (8 * group + i) 0) 8 }
 {
@@ -47,7 +49,7 @@ fn gain_word(gains: &[u8; 32], group: u8) -> u32
 
 // The bits of a word that a write sets.
 #[tactic(auto, unfolding(pmc330_model::specs::Words::held_word))]
-pub(crate) fn held_word(r: Registers, gains: &[u8; 32], register: Register) -> u32
+fn held_word(r: Registers, gains: &[u8; 32], register: Register) -> u32
     ensures { result ≡ held_word r gains.now register }
 {
     match register {
@@ -65,13 +67,12 @@ pub(crate) fn held_word(r: Registers, gains: &[u8; 32], register: Register) -> u
 fn mailbox_word(codes: &[u16; 32], slot: u8) -> u32
     ensures { result ≡ get_or codes.now slot 0 }
 {
-    match codes.get(usize::from(slot)) {
-        Some(code) => u32::from(*code),
-        None => 0,
-    }
+    codes
+        .get(usize::from(slot))
+        .map_or(0, |&code| u32::from(code))
 }
 
-// The word that is read. It is handed the arrays that a read is lent.
+// The word that is read. The arrays are parameters of their own, as in `lent`: C lends each by itself.
 #[tactic(auto, unfolding(pmc330_model::specs::Words::read_word, pmc330_model::specs::Words::held_word))]
 pub(crate) fn read_word(
     r: Registers,
@@ -99,66 +100,6 @@ pub(crate) fn look_value(code: u16, stores: u8) -> u32
     u32::from(code) + u32::from(1 <= stores) * 65_536 + u32::from(2 <= stores) * 131_072
 }
 
-// The byte of a word at a place.
-#[tactic(auto, using(crate::proofs::WordLaws::byte_power))]
-fn byte_at(word: u32, place: u32) -> u8
-    requires { place < 4 }
-    ensures { result ≡ word / 0x100 ^ place % 0x100 }
-{
-    ((word >> (8 * place)) % 0x100) as u8
-}
-
-// The bytes of a word that a read covers.
-#[tactic(auto, using(crate::proofs::WordLaws::byte_power))]
-pub(crate) fn read_bytes(width: Width, offset: u32, word: u32) -> u32
-    ensures { result ≡ read_bytes (bits_of width) offset word }
-{
-    let rest = word >> (8 * (offset % 4));
-    (u64::from(rest) % width.numbers()) as u32
-}
-
-// A byte of a word after a write: the written one where the width covers it, else the old one.
-fn written_byte(width: Width, offset: u32, value: u32, old: u32, place: u32) -> u8
-    requires { place < 2 }
-    ensures { result ≡ written_byte (bits_of width) offset value old place }
-{
-    let first = offset % 4;
-    if first <= place && place < first + width.bytes() {
-        return byte_at(value, place - first);
-    }
-    byte_at(old, place)
-}
-
-// The word after a write.
-#[tactic(auto, unfolding(pmc330_model::specs::Words::written_word))]
-pub(crate) fn written_word(width: Width, offset: u32, value: u32, old: u32) -> u16
-    ensures { result ≡ written_word (bits_of width) offset value old }
-{
-    let low = written_byte(width, offset, value, old, 0);
-    let high = written_byte(width, offset, value, old, 1);
-    u16::from_le_bytes([low, high])
-}
-
-// The registers after a register takes a word.
-#[tactic(auto, unfolding(pmc330_model::specs::Words::with_word))]
-pub(crate) fn with_word(register: Register, word: u16, r: Registers) -> Registers
-    ensures { result ≡ with_word register word r }
-{
-    let mut n = r;
-    match register {
-        Register::Interrupt => n.enable = word % 2 == 1,
-        Register::Control => n.control = word % 0x40 + word / 0x100 % 0x40 * 0x100,
-        Register::Prescaler => n.prescaler = (word / 0x100) as u8,
-        Register::Timer => n.timer = word,
-        Register::Channels => {
-            n.start = (word % 0x100) as u8;
-            n.end = (word / 0x100) as u8;
-        }
-        _ => {}
-    }
-    n
-}
-
 // A group of eight gains takes two bits each.
 fn gains_from(gains: &mut [u8; 32], group: u8, word: u16)
     ensures { gains.new ≡ gains_from (8 * group) word 8 gains.old }
@@ -175,32 +116,109 @@ fn gains_from(gains: &mut [u8; 32], group: u8, word: u16)
     }
 }
 
-// The gains when a register takes a word.
-pub(crate) fn gains_with(gains: &mut [u8; 32], register: Register, word: u16)
-    ensures { gains.new ≡ gains_with register word gains.old }
-{
-    if let Register::Gain(group) = register {
-        gains_from(gains, group, word);
+// A write of a whole word: the register that takes it, and the word.
+#[derive(Clone, Copy)]
+pub(crate) struct WordWrite {
+    pub register: Register,
+    pub word: u16,
+}
+
+impl WordWrite {
+    // The registers after it.
+    #[tactic(auto, unfolding(pmc330_model::specs::Words::with_word))]
+    pub(crate) fn registers_after(self, r: Registers) -> Registers
+        ensures { result ≡ with_word self.register self.word r }
+    {
+        let word = self.word;
+        let mut n = r;
+        match self.register {
+            Register::Interrupt => n.enable = word % 2 == 1,
+            Register::Control => n.control = word % 0x40 + word / 0x100 % 0x40 * 0x100,
+            Register::Prescaler => n.prescaler = (word / 0x100) as u8,
+            Register::Timer => n.timer = word,
+            Register::Channels => {
+                n.start = (word % 0x100) as u8;
+                n.end = (word / 0x100) as u8;
+            }
+            _ => {}
+        }
+        n
+    }
+
+    // The gains after it.
+    pub(crate) fn set_gains(self, gains: &mut [u8; 32])
+        ensures { gains.new ≡ gains_with self.register self.word gains.old }
+    {
+        if let Register::Gain(group) = self.register {
+            gains_from(gains, group, self.word);
+        }
+    }
+
+    // Whether it releases the interrupt.
+    pub(crate) fn is_release(self) -> bool
+        ensures { result ≡ is_release self.register self.word }
+    {
+        matches!(self.register, Register::Interrupt) && self.word / 0x8000 % 2 == 1
+    }
+
+    // Whether it ends the cycle.
+    pub(crate) fn is_stop(self) -> bool
+        ensures { result ≡ is_stop self.register self.word }
+    {
+        matches!(self.register, Register::Control) && ScanMode::of(self.word) == Some(ScanMode::Off)
+    }
+
+    // Whether it starts a cycle.
+    pub(crate) fn is_start(self) -> bool
+        ensures { result ≡ is_start self.register self.word }
+    {
+        matches!(self.register, Register::StartConvert) && self.word % 2 == 1
     }
 }
 
-// Whether a write releases the interrupt.
-pub(crate) fn is_release(register: Register, word: u16) -> bool
-    ensures { result ≡ is_release register word }
+// The byte of a word at a place.
+#[tactic(auto, using(crate::proofs::WordLaws::byte_power))]
+fn byte_at(word: u32, place: u32) -> u8
+    requires { place < 4 }
+    ensures { result ≡ word / 0x100 ^ place % 0x100 }
 {
-    matches!(register, Register::Interrupt) && word / 0x8000 % 2 == 1
+    word.to_le_bytes()[place as usize]
 }
 
-// Whether a write ends the cycle.
-pub(crate) fn is_stop(register: Register, word: u16) -> bool
-    ensures { result ≡ is_stop register word }
-{
-    matches!(register, Register::Control) && word / 0x100 % 8 == 0
-}
+impl Access {
+    // The bytes of a word that a read covers.
+    #[tactic(auto, using(crate::proofs::WordLaws::byte_power))]
+    pub(crate) fn read_bytes(self, word: u32) -> u32
+        ensures { result ≡ read_bytes (bits_of self.width) self.offset word }
+    {
+        let rest = word >> (8 * (self.offset % 4));
+        (u64::from(rest) % self.width.numbers()) as u32
+    }
 
-// Whether a write starts a cycle.
-pub(crate) fn is_start(register: Register, word: u16) -> bool
-    ensures { result ≡ is_start register word }
-{
-    matches!(register, Register::StartConvert) && word % 2 == 1
+    // A byte of a word after a write: the written one where the width covers it, else the old one.
+    fn written_byte(self, value: u32, old: u32, place: u32) -> u8
+        requires { place < 2 }
+        ensures { result ≡ written_byte (bits_of self.width) self.offset value old place }
+    {
+        let first = self.offset % 4;
+        if (first..first + self.width.bytes()).contains(&place) {
+            return byte_at(value, place - first);
+        }
+        byte_at(old, place)
+    }
+
+    // The write of a whole word that a write of a value comes to.
+    #[tactic(auto, unfolding(pmc330_model::specs::Words::written_word))]
+    pub(crate) fn word_write(self, r: Registers, gains: &[u8; 32], value: u32) -> WordWrite
+        ensures register { result.register ≡ self.register }
+        ensures word { result.word ≡ written_word (bits_of self.width) self.offset value (held_word r gains.now self.register) }
+    {
+        let old = held_word(r, gains, self.register);
+        let low = self.written_byte(value, old, 0);
+        let high = self.written_byte(value, old, 1);
+        WordWrite {
+            register: self.register,
+            word: u16::from_le_bytes([low, high]),
+        }
+    }
 }

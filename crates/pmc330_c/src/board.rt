@@ -1,5 +1,6 @@
 // A board that C holds in a struct of its own: the calls in place, on its parts, each with one number for an answer.
-// C lends the arrays one by one, each for reading or for change, so they are parameters of their own.
+// C lends the arrays one by one, each for reading or for change, so they are parameters of their own. Widths, offsets, slots and
+// the like are any numbers that C hands over, and a wrong one is refused.
 ghost use Rattle.std.specs.Prelude.{List, ◌≡◌, ℕ, ℤ};
 ghost use Rattle.pmc330_model.specs.Board.{request_line, next_store};
 ghost use Rattle.pmc330_model.specs.Calls.{read, write, input, advance, trigger, reset, look, clear};
@@ -7,7 +8,7 @@ ghost use Rattle.pmc330_model.specs.Lent.{board_in, parts};
 ghost use Rattle.pmc330_model.specs.Words.{to_bit};
 ghost use Rattle.pmc330_c.specs.Stepping.{Stepped, Opened};
 
-use crate::packed_answer;
+use analog::packed;
 use pmc330::lent;
 
 // A new board of a range.
@@ -22,7 +23,7 @@ pub extern "C" fn pmc330_parts_open(
 ) -> u64
     ensures { Opened (parts words.old inputs.old gains.old codes.old unread.old) range result (parts words.new inputs.new gains.new codes.new unread.new) }
 {
-    packed_answer(lent::new(words, inputs, gains, codes, unread, range))
+    packed(lent::new(words, inputs, gains, codes, unread, range))
 }
 
 // A register read.
@@ -38,7 +39,7 @@ pub extern "C" fn pmc330_parts_read(
 ) -> u64
     ensures { Stepped (parts words.now inputs.now gains.now codes.now unread.old) (read width offset) result (parts words.now inputs.now gains.now codes.now unread.new) }
 {
-    packed_answer(lent::read(words, inputs, gains, codes, unread, width, offset))
+    packed(lent::read(words, inputs, gains, codes, unread, width, offset))
 }
 
 // A register write.
@@ -55,7 +56,7 @@ pub extern "C" fn pmc330_parts_write(
 ) -> u64
     ensures { Stepped (parts words.old inputs.now gains.old codes.now unread.old) (write width offset value) result (parts words.new inputs.now gains.new codes.now unread.new) }
 {
-    packed_answer(lent::write(words, inputs, gains, codes, unread, width, offset, value))
+    packed(lent::write(words, inputs, gains, codes, unread, width, offset, value))
 }
 
 // A channel's input changes.
@@ -71,7 +72,7 @@ pub extern "C" fn pmc330_parts_input(
 ) -> u64
     ensures { Stepped (parts words.now inputs.old gains.now codes.now unread.now) (input channel microvolts) result (parts words.now inputs.new gains.now codes.now unread.now) }
 {
-    packed_answer(lent::input(words, inputs, gains, codes, unread, channel, microvolts))
+    packed(lent::input(words, inputs, gains, codes, unread, channel, microvolts))
 }
 
 // Time passes.
@@ -86,7 +87,7 @@ pub extern "C" fn pmc330_parts_advance(
 ) -> u64
     ensures { Stepped (parts words.old inputs.now gains.now codes.old unread.old) (advance ticks) result (parts words.new inputs.now gains.now codes.new unread.new) }
 {
-    packed_answer(lent::advance(words, inputs, gains, codes, unread, ticks))
+    packed(lent::advance(words, inputs, gains, codes, unread, ticks))
 }
 
 // An external trigger.
@@ -100,7 +101,7 @@ pub extern "C" fn pmc330_parts_trigger(
 ) -> u64
     ensures { Stepped (parts words.old inputs.now gains.now codes.old unread.old) trigger result (parts words.new inputs.now gains.now codes.new unread.new) }
 {
-    packed_answer(lent::trigger(words, inputs, gains, codes, unread))
+    packed(lent::trigger(words, inputs, gains, codes, unread))
 }
 
 // A reset keeps the range and the inputs.
@@ -114,7 +115,7 @@ pub extern "C" fn pmc330_parts_reset(
 ) -> u64
     ensures { Stepped (parts words.old inputs.now gains.old codes.old unread.old) reset result (parts words.new inputs.now gains.new codes.new unread.new) }
 {
-    packed_answer(lent::reset(words, inputs, gains, codes, unread))
+    packed(lent::reset(words, inputs, gains, codes, unread))
 }
 
 // A look at a slot. The other parts do not matter.
@@ -122,7 +123,7 @@ pub extern "C" fn pmc330_parts_reset(
 pub extern "C" fn pmc330_parts_look(codes: &[u16; 32], unread: &[u8; 32], slot: u32) -> u64
     ensures { (words : List ℕ) (inputs : List ℤ) (gains : List ℕ) → Stepped (parts words inputs gains codes.now unread.now) (look slot) result (parts words inputs gains codes.now unread.now) }
 {
-    packed_answer(lent::look(codes, unread, slot))
+    packed(lent::look(codes, unread, slot))
 }
 
 // A clear of a slot. The other parts do not matter.
@@ -130,7 +131,7 @@ pub extern "C" fn pmc330_parts_look(codes: &[u16; 32], unread: &[u8; 32], slot: 
 pub extern "C" fn pmc330_parts_clear(unread: &mut [u8; 32], slot: u32) -> u64
     ensures { (words : List ℕ) (inputs : List ℤ) (gains codes : List ℕ) → Stepped (parts words inputs gains codes unread.old) (clear slot) result (parts words inputs gains codes unread.new) }
 {
-    packed_answer(lent::clear(unread, slot))
+    packed(lent::clear(unread, slot))
 }
 
 // The request line, 0 or 1. The arrays do not matter.

@@ -1,4 +1,4 @@
-// What C links: include/pmc330.h declares each function here and in `board`.
+// What C links: include/pmc330.h declares each function here and in `board`. C hands its numbers over one by one, and any numbers.
 #![tactic(auto)]
 
 mod board;
@@ -12,18 +12,8 @@ ghost use Rattle.trace.specs.Play.{played_result, played_buffer};
 ghost use Rattle.trace.specs.Replay.{replayed, replay_result};
 ghost use Rattle.window.specs.Window.{window_answer, window_output};
 
-use analog::Answer;
+use analog::packed;
 use trace::Replayed;
-
-// An answer as one number, 256 × value + number.
-pub(crate) fn packed_answer(answer: Answer) -> u64
-    ensures { result ≡ packed answer }
-{
-    match answer {
-        Ok(value) => 256 * u64::from(value),
-        Err(refusal) => u64::from(refusal.number()),
-    }
-}
 
 // The two-point correction of a raw code.
 #[unsafe(no_mangle)]
@@ -38,7 +28,7 @@ pub extern "C" fn pmc330_corrected(
 ) -> u64
     ensures { result ≡ packed (corrected_answer range gain high low high_sum low_sum raw) }
 {
-    packed_answer(analog::corrected(range, gain, high, low, high_sum, low_sum, raw))
+    packed(analog::corrected(range, gain, high, low, high_sum, low_sum, raw))
 }
 
 // The straight code of a voltage.
@@ -55,7 +45,7 @@ pub extern "C" fn pmc330_window(length: u32, codes: &[u16], sums: &mut [u32]) ->
     ensures result { result ≡ packed (window_answer length codes.now sums.old) }
     ensures output { sums.new ≡ window_output length codes.now sums.old }
 {
-    packed_answer(window::window_sums(length, codes, sums))
+    packed(window::window_sums(length, codes, sums))
 }
 
 // A trace played on a new board, its answers put into the lent buffer: 256 × calls answered + number.
@@ -64,7 +54,7 @@ pub extern "C" fn pmc330_play(trace: &[u8], answers: &mut [u8]) -> u64
     ensures result { result ≡ played_result trace.now (length answers.old) }
     ensures buffer { answers.new ≡ played_buffer trace.now answers.old }
 {
-    packed_answer(trace::play(trace, answers))
+    packed(trace::play(trace, answers))
 }
 
 // A recording replayed on a new board: number + 2^8 × index + 2^32 × count.
@@ -87,5 +77,5 @@ pub extern "C" fn pmc330_load(seed: u32, range: u32, calls: u32, trace: &mut [u8
     ensures result { result ≡ packed (load_answer seed range calls (length trace.old)) }
     ensures buffer { trace.new ≡ load_output seed range calls trace.old }
 {
-    packed_answer(load::load(seed, range, calls, trace))
+    packed(load::load(seed, range, calls, trace))
 }

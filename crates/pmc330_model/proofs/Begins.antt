@@ -1,28 +1,22 @@
 -- A conversion begins: the board's beginning is the logbook's.
-use mathlib.Core.Bool.{Bool, not, cond, ◌&&◌}
+use mathlib.Core.Bool.{Bool, not, cond}
 use mathlib.Core.List.{List}
-use mathlib.Core.Path.{◌≡◌, sym, ap, ap₂, ◌∙◌}
+use mathlib.Core.Path.{◌≡◌, ap, ◌∙◌}
 use Prim.Native.Nat.{ℕ, suc, ◌+◌, ◌%◌, ◌<◌}
-use native.Mathlib.Nat.{mod-eq_of_lt}
 use Rattle.analog.proofs.Bounds.{code_below}
-use Rattle.pmc330_model.specs.Schedule.{pass_length, is_differential, channel_of, in_odd_pass, slot_of, ends_pass, voltage_at, code_at}
+use Rattle.pmc330_model.specs.Schedule.{pass_length, in_odd_pass, slot_of, ends_pass, voltage_at}
 use Rattle.pmc330_model.specs.Board.{begun, lead_after}
-use Rattle.pmc330_model.specs.Logbook.{Event, Running, begins, with_happened}
+use Rattle.pmc330_model.specs.Logbook.{Event, Running, begins}
 use Rattle.pmc330_model.specs.declared.Board.{Board}
 use Rattle.pmc330_model.proofs.Agreement.{Startable, book_of}
-use Rattle.pmc330_model.proofs.Due.{channel_below, slot_below, ends_here, index_next, parity_next}
+use Rattle.pmc330_model.proofs.Due.{ends_here, index_next, parity_next}
+use native.Mathlib.Omega.{arith}
 
 module _ (b : Board) (startable : Startable b.registers) (k : ℕ) (index : b.cycle.index ≡ k % pass_length b.registers) where
-  channel_is : (b.registers.start + b.cycle.index) % 32 ≡ channel_of b.registers k
-  channel_is = rw index (mod-eq_of_lt (channel_below b.registers startable k))
-
   -- the logbook with conversion k's code is that of the board that has begun it
   pub begins_is : (tick : ℕ) (cycle : Running) (events : List Event) → begins k (book_of b tick cycle events) ≡ book_of (begun b) tick cycle events
   unfolding begun
-  begins_is tick cycle events =
-      ap
-      (λ (channel : ℕ). with_happened (book_of b tick cycle events) tick (code_at b.range b.registers b.gains b.inputs channel) cycle events)
-      (sym channel_is)
+  begins_is tick cycle events = grind arith
 
   pub begun_ends : (begun b).cycle.ends ≡ ends_pass b.registers k
   unfolding begun
@@ -47,9 +41,7 @@ module _ (b : Board) (startable : Startable b.registers) (k : ℕ) (index : b.cy
 
     pub begun_slot : (begun b).cycle.slot ≡ slot_of b.registers k
     unfolding begun
-    begun_slot =
-        ap₂ (λ (i : ℕ) (o : Bool). (b.registers.start + i + cond (is_differential b.registers && o) 16 0) % 32) index odd
-        ∙ mod-eq_of_lt (slot_below b.registers startable k)
+    begun_slot = grind arith
 
 pub begun_held : (b : Board) → (begun b).held < 65536
 unfolding begun

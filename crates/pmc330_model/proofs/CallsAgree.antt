@@ -10,16 +10,15 @@ use Rattle.analog.specs.Answers.{Question, question, first_no}
 use Rattle.analog.proofs.AnswerLaws.{same_if_met}
 use Rattle.pmc330_model.specs.Map.{class_of, scan_field}
 use Rattle.pmc330_model.specs.declared.Register.{Register}
-use Rattle.pmc330_model.specs.declared.Register.TheVariants.{Unmapped, Interrupt, Control, Prescaler, Timer, Channels, StartConvert, NewData, MissedData, Gain, Mailbox}
+use Rattle.pmc330_model.specs.declared.Register.TheVariants.{Mailbox}
 use Rattle.pmc330_model.specs.Words.{with_word, read_bytes, is_start}
 use Rattle.pmc330_model.specs.Calls.{Call, read, write, input, advance, trigger, reset, look, clear}
 use Rattle.pmc330_model.specs.Board.{after_read, after_call, value_of_call, questions_of, board_call, stores_in}
-use Rattle.pmc330_model.specs.Logbook.{Event, was_reset, Running, idle, since, is_idle, Logbook, read_event, happens, logbook_questions, logged, logged_value, logged_answer, stores_made, ticks_pass}
+use Rattle.pmc330_model.specs.Logbook.{Event, was_reset, Running, idle, is_idle, Logbook, read_event, happens, logbook_questions, logged, logged_value, logged_answer, stores_made, ticks_pass}
 use Rattle.pmc330_model.specs.Questions.{is_allowed, is_valid, has_channels, has_interval, start_questions, resulting_word, call_questions}
 use Rattle.pmc330_model.specs.declared.Registers.{Registers}
-use Rattle.pmc330_model.specs.declared.Cycle.{Cycle}
 use Rattle.pmc330_model.specs.declared.Board.{Board}
-use Rattle.pmc330_model.proofs.Agreement.{book_of, Timed, Armed, CycleAgrees, Agrees, Related}
+use Rattle.pmc330_model.proofs.Agreement.{book_of, Agrees, Related}
 use Rattle.pmc330_model.proofs.Memory.{memory_read, memory_reset}
 use Rattle.pmc330_model.proofs.QuestionLaws.{first_met, rest_met}
 use Rattle.pmc330_model.proofs.Reading.{words_agree, look_agrees}
@@ -29,24 +28,8 @@ use Rattle.pmc330_model.proofs.Triggers.{trigger_agrees}
 use Rattle.pmc330_model.proofs.Writes.{write_agrees}
 use Rattle.analog.specs.declared.Refusal.TheVariants.{BadCode, Busy}
 
--- the board is idle when the logbook is
-idle_same : (r : Registers) (tick : ℕ) (cycle : Running) (c : Cycle) → CycleAgrees r tick cycle c → not c.running ≡ is_idle cycle
-idle_same r tick idle c h = ap (λ (d : Cycle). not d.running) h
-idle_same r tick (since T triggers) c h =
-    mathlib.Core.Logic.⊎_elim (λ (t : Timed r T tick c). ap not t.running) (λ (a : Armed r tick triggers c). ap not a.running) h.mode
-
 module _ (b : Board) (tick : ℕ) (cycle : Running) (events : List Event) (agrees : Agrees b tick cycle events) where
   read_agrees : (register : Register) → Related (record { range = b.range; registers = b.registers; gains = b.gains; inputs = b.inputs; tick = tick; taken = b.held; cycle = cycle; events = read_event register events }) (after_read register b)
-  read_agrees Unmapped = unchanged b tick cycle events agrees
-  read_agrees Interrupt = unchanged b tick cycle events agrees
-  read_agrees Control = unchanged b tick cycle events agrees
-  read_agrees Prescaler = unchanged b tick cycle events agrees
-  read_agrees Timer = unchanged b tick cycle events agrees
-  read_agrees Channels = unchanged b tick cycle events agrees
-  read_agrees StartConvert = unchanged b tick cycle events agrees
-  read_agrees (NewData half) = unchanged b tick cycle events agrees
-  read_agrees (MissedData half) = unchanged b tick cycle events agrees
-  read_agrees (Gain group) = unchanged b tick cycle events agrees
   read_agrees (Mailbox slot) =
       record {
         tick = tick;
@@ -61,6 +44,7 @@ module _ (b : Board) (tick : ℕ) (cycle : Running) (events : List Event) (agree
               running = agrees.running;
             };
       }
+  read_agrees _ = unchanged b tick cycle events agrees
 
   -- what the accepted questions of a write say
   module _ (width offset value : ℕ) where
@@ -130,8 +114,7 @@ module _ (b : Board) (tick : ℕ) (cycle : Running) (events : List Event) (agree
   happens_agrees (clear slot) e = read_agrees (Mailbox slot)
 
   pub questions_same : (call : Call) → questions_of b call ≡ logbook_questions (book_of b tick cycle events) call
-  questions_same call =
-      ap (λ (free : Bool). call_questions b.registers b.gains free call) (idle_same b.registers tick cycle b.cycle agrees.running)
+  questions_same call = grind arith
 
   -- the number of stores that an advance makes
   stores_same : (n : ℕ) → stores_in n b ≡ stores_made (ticks_pass n (book_of b tick cycle events)).events - stores_made events
@@ -145,13 +128,9 @@ module _ (b : Board) (tick : ℕ) (cycle : Running) (events : List Event) (agree
       → value_of_call b call ≡ logged_value (book_of b tick cycle events) call
   unfolding value_of_call logged_value call_questions
   value_same (read width offset) met = ap (read_bytes width offset) (words_agree b tick cycle events agrees offset)
-  value_same (write width offset value) met = refl
-  value_same (input channel microvolts) met = refl
   value_same (advance ticks) met = stores_same ticks
-  value_same trigger met = refl
-  value_same reset met = refl
   value_same (look slot) met = look_agrees b tick cycle events agrees slot (omega (arith, leb-true slot 31 (first_met _ _ _ met)))
-  value_same (clear slot) met = refl
+  value_same _ met = refl
 
   pub answer_same : (call : Call) → (board_call b call).answer ≡ logged_answer (book_of b tick cycle events) call
   unfolding board_call

@@ -1,56 +1,15 @@
 -- Small laws on tests.
-use mathlib.Core.Bool.{Bool, true, false, cond, not, ◌&&◌, ◌||◌, false≢true}
-use mathlib.Core.Logic.{◌⊎◌, inl, inr}
+use mathlib.Core.Bool.{Bool, cond}
 use mathlib.Core.List.{List, [], ◌∷◌}
 use mathlib.Core.Path.{◌≡◌, refl, sym, ap, ◌∙◌}
-use Prim.Native.Nat.{ℕ, zero, suc, ◌<◌, ◌≤◌}
-use native.Mathlib.Decide.{dec_le, ℕ_discrete}
-use native.Mathlib.Nat.{lt_of_not-le, le_of_suc-le-suc}
+use Prim.Native.Nat.{ℕ, zero, suc, ◌<◌}
+use native.Mathlib.Nat.{le_of_suc-le-suc}
 use native.Mathlib.Omega.{arith}
 use lib.ListN.{get_or}
 
-pub lt_or_le : (a b : ℕ) → (a < b) ⊎ (b ≤ a)
-lt_or_le a b = go (dec_le b a)
-  where
-    go : Dec (b ≤ a) → (a < b) ⊎ (b ≤ a)
-    go (yes h) = inr h
-    go (no h) = inl (lt_of_not-le h)
-
-pub same_or_not : (a b : ℕ) → (a ≡ b) ⊎ (a ≡ b → ⊥)
-same_or_not a b = go (ℕ_discrete a b)
-  where
-    go : Dec (a ≡ b) → (a ≡ b) ⊎ (a ≡ b → ⊥)
-    go (yes h) = inl h
-    go (no h) = inr h
-
-pub true_or_false : (t : Bool) → (t ≡ true) ⊎ (t ≡ false)
-true_or_false true = inl refl
-true_or_false false = inr refl
-
-pub never : {A : Type 0} (t : Bool) → t ≡ true → t ≡ false → A
-never t holds fails = absurd (false≢true (sym fails ∙ holds))
-
-pub and_left : (a b : Bool) → (a && b) ≡ true → a ≡ true
-and_left true b e = refl
-and_left false b e = e
-
-pub and_right : (a b : Bool) → (a && b) ≡ true → b ≡ true
-and_right true b e = e
-and_right false b e = absurd (false≢true e)
-
-pub or_right : (a b : Bool) → b ≡ true → (a || b) ≡ true
-or_right true b e = refl
-or_right false b e = e
-
--- "not a, or b" is "if a then b"
-pub implied : (a b : Bool) → (not a || b) ≡ true → a ≡ true → b ≡ true
-implied true b e h = e
-implied false b e h = absurd (false≢true h)
-
 -- the same in both branches
 pub either_way : {A : Type 0} (t : Bool) (x : A) → cond t x x ≡ x
-either_way true x = refl
-either_way false x = refl
+either_way t x = grind arith
 
 -- ---- a rule about all numbers below n: one test that antt computes, and one law that makes it the rule at each number
 

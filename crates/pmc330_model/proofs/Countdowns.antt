@@ -1,15 +1,15 @@
 -- How far the countdowns of a board reach that a list of calls leads to: one advance spans the longest of them.
-use mathlib.Core.Bool.{Bool, true, false, cond, not, ◌&&◌}
+use mathlib.Core.Bool.{Bool, false, cond, not, ◌&&◌}
 use mathlib.Core.List.{List, [], ◌∷◌}
-use Prim.Native.Nat.{ℕ, zero, suc, ◌+◌, ◌-◌, ◌/◌, ◌%◌, ◌^◌, ◌≤◌}
+use Prim.Native.Nat.{ℕ, zero, suc, ◌+◌, ◌≤◌}
 use native.Mathlib.Nat.{mul-le-mul}
 use native.Mathlib.Omega.{arith}
-use lib.Dec.{eqb, ltb, leb}
+use lib.Dec.{eqb, leb}
 use Rattle.analog.specs.Answers.{first_no}
 use Rattle.pmc330_model.specs.Map.{scan_field, is_timer_enabled, class_of, trigger_field}
 use Rattle.pmc330_model.specs.declared.Register.{Register}
-use Rattle.pmc330_model.specs.declared.Register.TheVariants.{Unmapped, Interrupt, Control, Prescaler, Timer, Channels, StartConvert, NewData, MissedData, Gain, Mailbox}
-use Rattle.pmc330_model.specs.Words.{written_byte, written_word, with_word, is_stop, is_start}
+use Rattle.pmc330_model.specs.declared.Register.TheVariants.{Mailbox}
+use Rattle.pmc330_model.specs.Words.{written_word, with_word, is_stop, is_start}
 use Rattle.pmc330_model.specs.Schedule.{pass_length, interval, is_uniform, is_burst, is_single, is_timed, is_trigger_only, burst_delay}
 use Rattle.pmc330_model.specs.Calls.{Call, read, write, input, advance, trigger, reset, look, clear}
 use Rattle.pmc330_model.specs.Questions.{has_channels, has_interval}
@@ -40,8 +40,7 @@ interval_most r fit = mul-le-mul fit.prescaler fit.timer
 
 -- a choice of two numbers with the same bound
 pub either_most : (t : Bool) (n k most : ℕ) → n ≤ most → k ≤ most → cond t n k ≤ most
-either_most true n k most h g = h
-either_most false n k most h g = g
+either_most t n k most h g = grind arith
 
 lead_most : (r : Registers) (ends : Bool) → Fitting r → lead_after r ends ≤ 16_711_545
 lead_most r ends fit =
@@ -63,25 +62,19 @@ begun_bounded b fit =
 
 -- a cycle that ends, or goes on
 either_near : (t : Bool) (c : Cycle) → Near c → Near (cond t idle_cycle c)
-either_near true c near = record { lead = omega arith; lag = omega arith }
-either_near false c near = near
+either_near t c near = grind arith
 
 -- a choice of two bounded boards
 either_bounded : (t : Bool) (a b : Board) → Bounded a → Bounded b → Bounded (cond t a b)
-either_bounded true a b h g = h
-either_bounded false a b h g = g
+either_bounded t a b h g = grind arith
 
 stored_bounded : (slot : ℕ) (ends : Bool) (b : Board) → Bounded b → Bounded (stored slot ends b)
 unfolding stored
-stored_bounded slot ends b h = record { registers = h.registers; cycle = h.cycle }
+stored_bounded slot ends b h = grind arith
 
 in_time_bounded : (b : Board) → Bounded b → Bounded (stored_in_time b)
 unfolding stored
-in_time_bounded b h =
-    record {
-      registers = h.registers;
-      cycle = either_near (is_single b.registers && b.cycle.ends) _ (record { lead = h.cycle.lead; lag = h.cycle.lag });
-    }
+in_time_bounded b h = grind arith
 
 started_bounded : (b : Board) → Bounded b → Bounded (started b)
 unfolding started
@@ -142,27 +135,11 @@ triggered_bounded b h =
 
 written_most : (width offset value old : ℕ) → written_word width offset value old ≤ 65535
 unfolding written_word
-written_most width offset value old = omega (arith, byte 0, byte 1)
-  where
-    byte : (i : ℕ) → written_byte width offset value old i ≤ 255
-    byte i =
-        either_most (leb (offset % 4) i && ltb i (offset % 4 + width / 8)) (value / 0x100 ^ (i - offset % 4) % 0x100) (old / 0x100 ^ i % 0x100) 255
-        (omega arith)
-        (omega arith)
+written_most width offset value old = grind arith
 
 fitting_with : (register : Register) (word : ℕ) (r : Registers) → word ≤ 65535 → Fitting r → Fitting (with_word register word r)
 unfolding with_word
-fitting_with Unmapped word r most fit = fit
-fitting_with Interrupt word r most fit = record { prescaler = fit.prescaler; timer = fit.timer; end = fit.end }
-fitting_with Control word r most fit = record { prescaler = fit.prescaler; timer = fit.timer; end = fit.end }
-fitting_with Prescaler word r most fit = record { prescaler = omega arith; timer = fit.timer; end = fit.end }
-fitting_with Timer word r most fit = record { prescaler = fit.prescaler; timer = most; end = fit.end }
-fitting_with Channels word r most fit = record { prescaler = fit.prescaler; timer = fit.timer; end = omega arith }
-fitting_with StartConvert word r most fit = fit
-fitting_with (NewData half) word r most fit = fit
-fitting_with (MissedData half) word r most fit = fit
-fitting_with (Gain group) word r most fit = fit
-fitting_with (Mailbox slot) word r most fit = fit
+fitting_with register word r most fit = grind arith
 
 write_bounded : (register : Register) (word : ℕ) (b : Board) → word ≤ 65535 → Bounded b → Bounded (after_write register word b)
 unfolding after_write
@@ -175,26 +152,12 @@ write_bounded register word b most h =
     either_bounded (is_start register word) (started (word_written register word b)) (word_written register word b) (started_bounded (word_written register word b) next) next
 
 read_bounded : (register : Register) (b : Board) → Bounded b → Bounded (after_read register b)
-read_bounded Unmapped b h = h
-read_bounded Interrupt b h = h
-read_bounded Control b h = h
-read_bounded Prescaler b h = h
-read_bounded Timer b h = h
-read_bounded Channels b h = h
-read_bounded StartConvert b h = h
-read_bounded (NewData half) b h = h
-read_bounded (MissedData half) b h = h
-read_bounded (Gain group) b h = h
-read_bounded (Mailbox slot) b h = record { registers = h.registers; cycle = h.cycle }
+read_bounded register b h = grind arith
 
 -- ---- calls
 
 cleared_bounded : (b : Board) → Bounded (cleared_board b.range b.inputs)
-cleared_bounded b =
-    record {
-      registers = record { prescaler = omega arith; timer = omega arith; end = omega arith };
-      cycle = record { lead = omega arith; lag = omega arith };
-    }
+cleared_bounded b = grind arith
 
 call_bounded : (b : Board) (call : Call) → Bounded b → Bounded (after_call b call)
 unfolding after_call

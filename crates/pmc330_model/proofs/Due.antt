@@ -7,29 +7,17 @@ use Prim.Native.Nat.{ℕ, suc, ◌+◌, ◌/◌, ◌%◌, ◌≤◌, ◌<◌}
 use native.Mathlib.Nat.{zero-add, mod-eq_of_lt}
 use native.Mathlib.Omega.{arith}
 use lib.Dec.{eqb, ltb, leb}
-use borrow.Author.Tests.{eq-eqb, ne_eqb, lt-ltb, le-ltb, le-leb, lt-leb, ltb-true, ltb-false}
-use Rattle.pmc330_model.specs.Schedule.{pass_length, is_differential, is_single, is_timed, channel_of, in_odd_pass, slot_of, ends_pass, begins_at, is_scheduled, none, conversion}
+use borrow.Author.Tests.{eq-eqb, ne_eqb, lt-ltb, le-ltb, ltb-true}
+use Rattle.std.proofs.lemmas.Bool.{cases_Bool, and_right}
+use Rattle.pmc330_model.specs.Schedule.{pass_length, is_single, is_timed, in_odd_pass, slot_of, ends_pass, begins_at, is_scheduled, none, conversion}
 use Rattle.pmc330_model.specs.Logbook.{since, due_after}
 use Rattle.pmc330_model.specs.declared.Registers.{Registers}
 use Rattle.pmc330_model.proofs.Agreement.{Startable}
-use Rattle.pmc330_model.proofs.Cases.{true_or_false}
-use Rattle.pmc330_model.proofs.Schedule.{place_below, inside_or_ends, ends_is, inside_is, same_pass, next_place, next_pass, first_place, odd_next, before, late, search_none, search_at}
-
-and_false : (a : Bool) → (a && false) ≡ false
-and_false true = refl
-and_false false = refl
+use Rattle.pmc330_model.proofs.Schedule.{inside_or_ends, ends_is, inside_is, same_pass, next_place, next_pass, first_place, odd_next, before, late, search_none, search_at}
 
 module _ (r : Registers) (startable : Startable r) where
-  pub channel_below : (k : ℕ) → channel_of r k < 32
-  channel_below k = omega (arith, place_below r k, startable.ordered, startable.most)
-
   pub slot_below : (k : ℕ) → slot_of r k < 32
-  slot_below k = go (is_differential r) refl (in_odd_pass r k)
-    where
-      go : (d : Bool) → is_differential r ≡ d → (o : Bool) → channel_of r k + cond (d && o) 16 0 < 32
-      go true e true = omega (arith, place_below r k, startable.ordered, startable.half e)
-      go true e false = omega (arith, channel_below k)
-      go false e o = omega (arith, channel_below k)
+  slot_below k = grind arith
 
   -- the conversion at some tick is the only one
   module _ (T : ℕ) where
@@ -48,7 +36,7 @@ module _ (r : Registers) (startable : Startable r) where
         earlier : (j : ℕ) → 0 ≤ j → j < 0 + k → is_due delay tick j ≡ false
         earlier j low high =
             let sooner : j < k = omega arith in
-            rw (ne_eqb (T + begins_at r j + delay) tick (λ e. omega (arith, before r startable.slow j k sooner))) (and_false (is_scheduled r j))
+            rw (ne_eqb (T + begins_at r j + delay) tick (λ e. omega (arith, before r startable.slow j k sooner))) (and_right (is_scheduled r j) false refl)
 
     pub due_none : (delay tick : ℕ) (triggers : List ℕ) → ((i : ℕ) → is_scheduled r i ≡ true → T + begins_at r i + delay ≡ tick → ⊥) → due_after delay r tick (since T triggers) ≡ none
     unfolding due_after
@@ -59,7 +47,7 @@ module _ (r : Registers) (startable : Startable r) where
             ⊎_elim
             (λ (e : is_scheduled r j ≡ true). rw (e, ne_eqb (T + begins_at r j + delay) tick (fails j e)))
             (λ (e : is_scheduled r j ≡ false). rw e)
-            (true_or_false (is_scheduled r j))
+            (cases_Bool (is_scheduled r j))
 
 -- the schedule of a mode in time goes on until a single pass ends
 module _ (r : Registers) where
@@ -67,11 +55,7 @@ module _ (r : Registers) where
   scheduled_when timed k = rw timed
 
   pub unscheduled_later : is_timed r ≡ true → (k i : ℕ) → is_scheduled r k ≡ false → k ≤ i → is_scheduled r i ≡ false
-  unscheduled_later timed k i off h = scheduled_when timed i ∙ go (is_single r) (sym (scheduled_when timed k) ∙ off)
-    where
-      go : (s : Bool) → (not s || ltb k (pass_length r)) ≡ false → (not s || ltb i (pass_length r)) ≡ false
-      go true e = le-ltb i (pass_length r) (omega (arith, ltb-false k (pass_length r) e))
-      go false e = e
+  unscheduled_later timed k i off h = grind arith
 
   pub scheduled_next : is_timed r ≡ true → (k : ℕ) → is_scheduled r k ≡ true → is_scheduled r (suc k) ≡ not (is_single r && ends_pass r k)
   scheduled_next timed k on = scheduled_when timed (suc k) ∙ go (is_single r) (sym (scheduled_when timed k) ∙ on)
@@ -86,11 +70,7 @@ module _ (r : Registers) where
 
   -- the board's place and parity go from a conversion to the next
   pub ends_here : (k i : ℕ) → i ≡ k % pass_length r → leb (pass_length r) (i + 1) ≡ ends_pass r k
-  ends_here k i e = go (inside_or_ends r k)
-    where
-      go : (suc (k % pass_length r) ≡ pass_length r) ⊎ (suc (k % pass_length r) < pass_length r) → leb (pass_length r) (i + 1) ≡ ends_pass r k
-      go (inl h) = le-leb (pass_length r) (i + 1) (omega arith) ∙ sym (ends_is r k h)
-      go (inr h) = lt-leb (pass_length r) (i + 1) (omega arith) ∙ sym (inside_is r k h)
+  ends_here k i e = grind arith
 
   pub index_next : (k i : ℕ) → i ≡ k % pass_length r → cond (ends_pass r k) 0 (i + 1) ≡ suc k % pass_length r
   index_next k i e = go (inside_or_ends r k)

@@ -1,18 +1,16 @@
 -- Many ticks at once: what a board does in n ticks, said without counting them one by one.
 use mathlib.Core.Bool.{Bool, true, false, cond, ◌&&◌}
-use mathlib.Core.Logic.{◌⊎◌, inl, inr, ⊎_elim}
+use mathlib.Core.Logic.{◌⊎◌}
 use mathlib.Core.Path.{◌≡◌, refl, sym, ap, ap₂, ◌∙◌}
 use Prim.Native.Nat.{ℕ, zero, suc, ◌+◌, ◌-◌, ◌*◌, ◌≤◌, ◌<◌}
 use native.Mathlib.Nat.{add-zero, zero-add, sub-zero, zero-mul, suc-mul}
 use native.Mathlib.Omega.{arith}
 use lib.Dec.{eqb}
-use borrow.Author.Tests.{eq-eqb, ne_eqb}
 use Rattle.pmc330_model.specs.Schedule.{is_timed}
 use Rattle.pmc330_model.specs.Board.{with_cycle, elapsed, is_store_due, is_beginning_due, stored_if_due, begun_if_due, ticked, advanced, stores_in}
 use Rattle.pmc330_model.specs.Jumps.{elapsed_by, jumped}
 use Rattle.pmc330_model.specs.declared.Cycle.{Cycle}
 use Rattle.pmc330_model.specs.declared.Board.{Board}
-use Rattle.pmc330_model.proofs.Cases.{same_or_not}
 use Rattle.pmc330_model.proofs.Theorems.{advanced_add, stores_add}
 
 -- n ticks reach at most the end of a countdown, if one runs
@@ -40,42 +38,31 @@ elapsed_none c = ap₂ (counting c) (sub-zero c.lead) (sub-zero c.lag)
 
 -- one tick, then n
 elapsed_more : (n : ℕ) (c : Cycle) → elapsed_by n (elapsed c) ≡ elapsed_by (suc n) c
-elapsed_more n c = ap₂ (counting c) (one_more c.lead) (one_more c.lag)
-  where
-    one_more : (count : ℕ) → count - 1 - n ≡ count - suc n
-    one_more count = omega arith
+elapsed_more n c = grind arith
 
 -- a countdown that ends n ticks after the next one
 ends_later : (n count : ℕ) → eqb (count - 1) (suc n) ≡ eqb count (suc (suc n))
-ends_later n count =
-    ⊎_elim
-    (λ (same : count ≡ suc (suc n)). eq-eqb (count - 1) (suc n) (omega arith) ∙ sym (eq-eqb count (suc (suc n)) same))
-    (λ (other : count ≡ suc (suc n) → ⊥). ne_eqb (count - 1) (suc n) (λ e. other (omega arith)) ∙ sym (ne_eqb count (suc (suc n)) other))
-    (same_or_not count (suc (suc n)))
+ends_later n count = grind arith
 
 within_next : (n count : ℕ) → Within (suc (suc n)) count → Within (suc n) (count - 1)
-within_next n count (inl none) = inl (omega arith)
-within_next n count (inr most) = inr (omega arith)
+within_next n count h = grind arith
 
 -- a countdown of two ticks or more does not end in the next one
 not_due : (n count : ℕ) → Within (suc (suc n)) count → eqb count 1 ≡ false
-not_due n count (inl none) = ne_eqb count 1 (λ e. omega arith)
-not_due n count (inr most) = ne_eqb count 1 (λ e. omega arith)
+not_due n count h = grind arith
 
 -- ---- a tick of a running board
 
 module _ (b : Board) (running : b.cycle.running ≡ true) where
   -- what is due in it
   due_is : (timed : Bool) → is_timed b.registers ≡ timed → (count : ℕ) → (b.cycle.running && is_timed b.registers && eqb count 1) ≡ (timed && eqb count 1)
-  due_is timed e count = ap₂ (λ (runs mode : Bool). runs && mode && eqb count 1) running e
+  due_is timed e count = grind arith
 
   ticked_is :
       (beginning due : Bool) → is_beginning_due b ≡ beginning → is_store_due b ≡ due
       → ticked b ≡ begun_if_due beginning (stored_if_due due (with_cycle b (elapsed b.cycle)))
   unfolding ticked
-  ticked_is beginning due e d =
-      ap (λ (runs : Bool). cond runs (begun_if_due (is_beginning_due b) (stored_if_due (is_store_due b) (with_cycle b (elapsed b.cycle)))) b) running
-      ∙ ap₂ (λ (beginning due : Bool). begun_if_due beginning (stored_if_due due (with_cycle b (elapsed b.cycle)))) e d
+  ticked_is beginning due e d = grind arith
 
 -- ---- a running board in a timed mode, up to the next store or beginning
 
@@ -138,8 +125,7 @@ untimed_stores (suc n) b running untimed =
 
 idle_ticked : (b : Board) → b.cycle.running ≡ false → ticked b ≡ b
 unfolding ticked
-idle_ticked b stopped =
-    ap (λ (runs : Bool). cond runs (begun_if_due (is_beginning_due b) (stored_if_due (is_store_due b) (with_cycle b (elapsed b.cycle)))) b) stopped
+idle_ticked b stopped = grind arith
 
 pub idle_board : (n : ℕ) (b : Board) → b.cycle.running ≡ false → advanced n b ≡ b
 unfolding advanced

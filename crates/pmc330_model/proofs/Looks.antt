@@ -37,7 +37,7 @@ mailbox_byte slot byte h live = class_is (0x20 + slot) byte (0x80 + 4 * slot + b
 
 pub looks_change_nothing : EveryLook
 unfolding board_call after_call
-looks_change_nothing b slot = either_way (eqb (first_no (questions_of b (look slot))) 0) b
+looks_change_nothing b slot = grind arith
 
 look_shows : (b : Board) (slot : ℕ) → slot < 32 → (look_call b slot).answer ≡ Ok (look_value (view_of b) slot)
 unfolding call_questions value_of_call

@@ -9,9 +9,9 @@ use lib.Dec.{eqb}
 use lib.ListN.{get_or, set, length, replicate, length-set}
 use lib.Seq.{get_or-set_same, get_or-set_other, set_out}
 use borrow.Author.Tests.{eq-eqb, ne_eqb}
+use Rattle.std.proofs.lemmas.Bool.{cases_lt, cases_eq}
 use Rattle.pmc330_model.specs.Logbook.{Store, Event, was_reset, cycle_start, release, was_read, store, last_store, stores_since, interrupted}
 use Rattle.pmc330_model.proofs.Agreement.{Memory}
-use Rattle.pmc330_model.proofs.Cases.{same_or_not, lt_or_le}
 
 -- a list's element after a store in it
 set_at : (l : List ℕ) (i a j : ℕ) → length l ≡ 32 → j < 32 → get_or (set l i a) j 0 ≡ cond (eqb i j) a (get_or l j 0)
@@ -19,7 +19,7 @@ set_at l i a j long h =
     ⊎_elim
     (λ (e : i ≡ j). rw (e, eq-eqb j j refl) (get_or-set_same l j a 0 (omega arith)))
     (λ (d : i ≡ j → ⊥). rw (ne_eqb i j d) (get_or-set_other l i j a 0 (λ e. d (sym e))))
-    (same_or_not i j)
+    (cases_eq i j)
 
 -- an element below a bound, whichever it is
 set_below : (l : List ℕ) (i a n : ℕ) → a < n → ((j : ℕ) → get_or l j 0 < n) → (j : ℕ) → get_or (set l i a) j 0 < n
@@ -29,9 +29,9 @@ set_below l i a n small all j =
     ⊎_elim
     (λ (inside : j < length l). rw (e, get_or-set_same l j a 0 inside) small)
     (λ (out : length l ≤ j). rw (e, set_out l j a out) (all j))
-    (lt_or_le j (length l)))
+    (cases_lt j (length l)))
     (λ (d : i ≡ j → ⊥). rw (get_or-set_other l i j a 0 (λ e. d (sym e))) (all j))
-    (same_or_not i j)
+    (cases_eq i j)
 
 zeros_at : (n j : ℕ) → ◌≡◌ {A = ℕ} (get_or (replicate n 0) j 0) 0
 zeros_at zero j = refl
@@ -39,23 +39,15 @@ zeros_at (suc n) zero = refl
 zeros_at (suc n) (suc j) = zeros_at n j
 
 or_turned : (a b : Bool) → (a || b) ≡ (b || a)
-or_turned true true = refl
-or_turned true false = refl
-or_turned false true = refl
-or_turned false false = refl
+or_turned a b = grind arith
 
 more : (t : Bool) (x y : ℕ) → x ≡ min 2 y → cond t (min 2 (x + 1)) x ≡ min 2 (cond t 1 0 + y)
-more true x y e = omega arith
-more false x y e = omega arith
+more t x y e = grind arith
 
 module _ (events : List Event) (codes unread : List ℕ) (pending : Bool) (h : Memory events codes unread pending) where
   -- the slot's own count is the one that a store counts on
   own : (s j n : ℕ) → cond (eqb s j) (min 2 (get_or unread s 0 + 1)) n ≡ cond (eqb s j) (min 2 (get_or unread j 0 + 1)) n
-  own s j n =
-      ⊎_elim
-      (λ (e : s ≡ j). rw e)
-      (λ (d : s ≡ j → ⊥). rw (ne_eqb s j d))
-      (same_or_not s j)
+  own s j n = grind arith
 
   pub memory_store :
       (s : Store) → s.code < 65536
@@ -111,15 +103,7 @@ module _ (events : List Event) (codes unread : List ℕ) (pending : Bool) (h : M
 
   pub memory_release : Memory (release ∷ events) codes unread false
   unfolding last_store stores_since interrupted
-  memory_release =
-      record {
-        codes_long = h.codes_long;
-        unread_long = h.unread_long;
-        small = h.small;
-        code = h.code;
-        count = h.count;
-        interrupt = refl;
-      }
+  memory_release = grind arith
 
 pub memory_reset : (events : List Event) → Memory (was_reset ∷ events) (replicate 32 0) (replicate 32 0) false
 unfolding last_store stores_since interrupted

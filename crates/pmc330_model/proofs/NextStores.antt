@@ -1,5 +1,5 @@
 -- The next store: what the search tick by tick finds, and that it is what the countdowns say.
-use mathlib.Core.Bool.{Bool, true, false, cond, not, ◌&&◌, ◌||◌, false≢true}
+use mathlib.Core.Bool.{Bool, true, false, cond, not, ◌&&◌, ◌||◌}
 use mathlib.Core.List.{List, [], ◌∷◌}
 use mathlib.Core.Logic.{◌⊎◌, inl, inr, ⊎_elim}
 use mathlib.Core.Path.{◌≡◌, refl, sym, ap, ap₂, subst, ◌∙◌}
@@ -7,7 +7,8 @@ use Prim.Native.Nat.{ℕ, zero, suc, ◌+◌, ◌-◌, ◌*◌, ◌≤◌, ◌<�
 use native.Mathlib.Nat.{add-zero, zero-add, zero-mul, suc-mul, mul-le-mul}
 use native.Mathlib.Omega.{arith}
 use lib.Dec.{eqb, ltb, leb}
-use borrow.Author.Tests.{eq-eqb, ne_eqb, le-leb, lt-leb, lt-ltb, le-ltb, ltb-true}
+use borrow.Author.Tests.{eq-eqb, ne_eqb, le-leb, lt-leb, lt-ltb, le-ltb}
+use Rattle.std.proofs.lemmas.Bool.{cases_lt, cases_Bool, and_parts}
 use Rattle.analog.specs.Answers.{first_no, asked, answered, value_of}
 use Rattle.pmc330_model.specs.Schedule.{pass_length, interval, is_uniform, is_single, is_timed, burst_delay}
 use Rattle.pmc330_model.specs.Board.{with_cycle, is_store_due, ticked, advanced, stores_in, first_store, next_store, begun, lead_after, stored_if_due, begun_if_due, board_call, advance_call, board_after}
@@ -17,7 +18,6 @@ use Rattle.pmc330_model.specs.Jumps.{elapsed_by, is_store_next, is_crowded, stor
 use Rattle.pmc330_model.specs.declared.Registers.{Registers}
 use Rattle.pmc330_model.specs.declared.Cycle.{Cycle}
 use Rattle.pmc330_model.specs.declared.Board.{Board}
-use Rattle.pmc330_model.proofs.Cases.{lt_or_le, true_or_false, and_left, and_right}
 use Rattle.pmc330_model.proofs.Theorems.{stores_add, accepted_board, accepted_answer, accepted_value}
 use Rattle.pmc330_model.proofs.Countdowns.{Fitting, Near, Bounded, either_most, list_bounded}
 use Rattle.pmc330_model.proofs.Jumps.{Within, jump_board, jump_stores, idle_stores, untimed_stores}
@@ -114,18 +114,10 @@ searched (suc n) passed b =
     (λ (h : Missing n (ticked b) (first_store n (suc passed) (ticked b))).
     inr (record { is = later ∙ h.is; none = none_later b free n h.none }))
     (searched n (suc passed) (ticked b)))
-    (true_or_false (is_store_due b))
+    (cases_Bool (is_store_due b))
 
 first_one : (b : Board) (n k : ℕ) → First b n → First b k → n ≡ k
-first_one b n k h g =
-    ⊎_elim
-    (λ (less : n < k). absurd (omega (arith, h.exact, g.fewer n less)))
-    (λ (most : k ≤ n).
-    ⊎_elim
-    (λ (less : k < n). absurd (omega (arith, g.exact, h.fewer k less)))
-    (λ (other : n ≤ k). omega (arith, most, other))
-    (lt_or_le k n))
-    (lt_or_le n k)
+first_one b n k h g = grind arith
 
 next_found : (b : Board) (n : ℕ) → First b n → n ≤ 16_777_216 → next_store b ≡ n
 next_found b n h most =
@@ -153,7 +145,7 @@ coming_next b n (inl h) =
     (λ (more : 16_777_216 < n).
     next_none b (λ t most. h.fewer t (omega arith)) ∙ sym (ap (λ (t : Bool). cond t n 0) (lt-leb n 16_777_216 more)))
     (λ (most : n ≤ 16_777_216). next_found b n h most ∙ sym (ap (λ (t : Bool). cond t n 0) (le-leb n 16_777_216 most)))
-    (lt_or_le 16_777_216 n)
+    (cases_lt 16_777_216 n)
 coming_next b n (inr (zero_is, never)) = next_none b (λ t most. never t) ∙ sym (ap within_advance zero_is)
 
 module _ (b : Board) (running : b.cycle.running ≡ true) (timed : is_timed b.registers ≡ true) where
@@ -191,9 +183,7 @@ module _ (b : Board) (running : b.cycle.running ≡ true) (timed : is_timed b.re
     waits t most = ⊎_elim (λ (none : b.cycle.lag ≡ 0). inl none) (λ (less : b.cycle.lead < b.cycle.lag). inr (omega arith)) before
 
     unstored : (t : ℕ) → 0 < t → t ≤ b.cycle.lead → eqb b.cycle.lag t ≡ false
-    unstored t positive most =
-        ne_eqb b.cycle.lag t
-        (λ e. ⊎_elim (λ (none : b.cycle.lag ≡ 0). omega arith) (λ (less : b.cycle.lead < b.cycle.lag). omega arith) before)
+    unstored t positive most = grind arith
 
     quiet : NoneIn b.cycle.lead b
     quiet zero most = no_ticks b
@@ -230,7 +220,7 @@ module _ (b : Board) (running : b.cycle.running ≡ true) (timed : is_timed b.re
               ⊎_elim
               (λ (early : t < b.cycle.lead). quiet t (omega arith))
               (λ (late : b.cycle.lead ≤ t). split t late ∙ h.fewer (t - b.cycle.lead) (omega arith))
-              (lt_or_le t b.cycle.lead);
+              (cases_lt t b.cycle.lead);
           exact = stores_after n ∙ h.exact;
         }
 
@@ -240,46 +230,18 @@ module _ (b : Board) (running : b.cycle.running ≡ true) (timed : is_timed b.re
 spaced :
     (goes uniform : Bool) (i more : ℕ) → (uniform && (ltb 0 i && ltb i 64)) ≡ false
     → (cond goes (cond uniform i (120 + more)) 0 ≡ 0) ⊎ (64 ≤ cond goes (cond uniform i (120 + more)) 0)
-spaced false uniform i more e = inl refl
-spaced true false i more e = inr (omega arith)
-spaced true true i more e =
-    ⊎_elim
-    (λ (short : i < 64).
-    ⊎_elim
-    (λ (some : 0 < i). absurd (false≢true (sym e ∙ ap₂ ◌&&◌ (lt-ltb 0 i some) (lt-ltb i 64 short))))
-    (λ (none : i ≤ 0). inl (omega arith))
-    (lt_or_le 0 i))
-    (λ (long : 64 ≤ i). inr long)
-    (lt_or_le i 64)
+spaced goes uniform i more e = grind arith
 
 -- crowded, they are the interval, until a single cycle ends
 module _ (r : Registers) (crowded : is_crowded r ≡ true) where
-  crowded_uniform : is_uniform r ≡ true
-  crowded_uniform = and_left (is_uniform r) (ltb 0 (interval r) && ltb (interval r) 64) crowded
-
-  crowded_some : 0 < interval r
-  crowded_some =
-      ltb-true 0 (interval r)
-      (and_left (ltb 0 (interval r)) (ltb (interval r) 64) (and_right (is_uniform r) (ltb 0 (interval r) && ltb (interval r) 64) crowded))
-
   crowded_short : interval r < 64
-  crowded_short =
-      ltb-true (interval r) 64
-      (and_right (ltb 0 (interval r)) (ltb (interval r) 64) (and_right (is_uniform r) (ltb 0 (interval r) && ltb (interval r) 64) crowded))
+  crowded_short = grind arith
 
   crowded_lead : (ends : Bool) → is_timed r ≡ true → (is_single r && ends) ≡ false → lead_after r ends ≡ interval r
-  crowded_lead ends timed goes =
-      ap₂ (λ (t s : Bool). cond (t && not s) (cond (is_uniform r) (interval r) (120 + cond ends (burst_delay r) 0)) 0) timed goes
-      ∙ ap (λ (u : Bool). cond u (interval r) (120 + cond ends (burst_delay r) 0)) crowded_uniform
+  crowded_lead ends timed goes = grind arith
 
 last_lead : (r : Registers) (ends : Bool) → is_single r ≡ true → ends ≡ true → lead_after r ends ≡ 0
-last_lead r ends single last =
-    ap₂ (λ (s e : Bool). cond (is_timed r && not (s && e)) (cond (is_uniform r) (interval r) (120 + cond e (burst_delay r) 0)) 0) single last
-    ∙ never_goes (is_timed r)
-  where
-    never_goes : (t : Bool) → cond (t && false) (cond (is_uniform r) (interval r) (120 + cond true (burst_delay r) 0)) 0 ≡ 0
-    never_goes true = refl
-    never_goes false = refl
+last_lead r ends single last = grind arith
 
 -- a board whose next event is a beginning
 pub record Beginning (b : Board) : Type 0 where
@@ -307,14 +269,7 @@ module _ (b : Board) (h : Beginning b) where
   crowded_next :
       is_crowded b.registers ≡ true → (is_single b.registers && ends_at b) ≡ false → Beginning then
   unfolding begun
-  crowded_next crowded goes =
-      let lead : lead_after b.registers (ends_at b) ≡ interval b.registers = crowded_lead b.registers crowded (ends_at b) h.timed goes in
-      record {
-        running = h.running;
-        timed = h.timed;
-        some = omega (arith, lead, crowded_some b.registers crowded);
-        before = inr (omega (arith, lead, crowded_short b.registers crowded));
-      }
+  crowded_next crowded goes = grind arith
 
 -- crowded and continuous: no conversion is ever stored
 crowded_never :
@@ -329,7 +284,7 @@ crowded_never (suc most) b h crowded many t few =
     ∙ crowded_never most (then b h) (crowded_next b h crowded (ap (λ (s : Bool). s && ends_at b) many)) crowded many
     (t - b.cycle.lead)
     (omega (arith, h.some)))
-    (lt_or_le t b.cycle.lead)
+    (cases_lt t b.cycle.lead)
 
 -- crowded and single: the last conversion of the pass is stored
 crowded_last :
@@ -361,13 +316,10 @@ module _ (b : Board) (h : Beginning b) where
   after = store_after_beginning r b.cycle.index
 
   crowding : {t : Bool} → is_crowded r ≡ t → after ≡ cond t (cond (is_single r) (64 + rest * interval r) 0) 64
-  crowding e = ap (λ (t : Bool). cond t (cond (is_single r) (64 + rest * interval r) 0) 64) e
+  crowding e = grind arith
 
   joined : (n : ℕ) → after ≡ n → 0 < n → joined_ticks b.cycle.lead after ≡ b.cycle.lead + n
-  joined n is some =
-      ap (joined_ticks b.cycle.lead) is
-      ∙ ap₂ (λ (s t : Bool). cond (s || t) 0 (b.cycle.lead + n)) (ne_eqb b.cycle.lead 0 (λ e. omega (arith, h.some)))
-      (ne_eqb n 0 (λ e. omega arith))
+  joined n is some = grind arith
 
   crowded_comes : is_crowded r ≡ true → (single : Bool) → is_single r ≡ single → Coming b (joined_ticks b.cycle.lead after)
   crowded_comes crowded true single =
@@ -391,7 +343,7 @@ module _ (b : Board) (h : Beginning b) where
       (subst (First b) (sym (joined 64 (crowding free) (omega arith)))
       (stored_next b h
       (spaced (is_timed r && not (is_single r && ends_at b)) (is_uniform r) (interval r) (cond (ends_at b) (burst_delay r) 0) free))))
-      (true_or_false (is_crowded r))
+      (cases_Bool (is_crowded r))
 
 -- of a running cycle in time
 module _ (b : Board) (running : b.cycle.running ≡ true) (timed : is_timed b.registers ≡ true) where
@@ -448,14 +400,14 @@ module _ (b : Board) (running : b.cycle.running ≡ true) (timed : is_timed b.re
       (λ (early : b.cycle.lead < b.cycle.lag).
       ⊎_elim (λ (some : 0 < b.cycle.lead). begins_next some (inr early))
       (λ (none : b.cycle.lead ≤ 0). stores_next flight (inl (omega arith)))
-      (lt_or_le 0 b.cycle.lead))
+      (cases_lt 0 b.cycle.lead))
       (λ (late : b.cycle.lag ≤ b.cycle.lead). stores_next flight (inr late))
-      (lt_or_le b.cycle.lead b.cycle.lag))
+      (cases_lt b.cycle.lead b.cycle.lag))
       (λ (stored : b.cycle.lag ≤ 0).
       ⊎_elim (λ (some : 0 < b.cycle.lead). begins_next some (inl (omega arith)))
       (λ (none : b.cycle.lead ≤ 0). nothing_next (omega arith) (omega arith))
-      (lt_or_le 0 b.cycle.lead))
-      (lt_or_le 0 b.cycle.lag)
+      (cases_lt 0 b.cycle.lead))
+      (cases_lt 0 b.cycle.lag)
 
 -- a board that does not run, or not in a timed mode, makes no store by itself
 idle_never : (b : Board) → (b.cycle.running && is_timed b.registers) ≡ false → Never b
@@ -464,19 +416,19 @@ idle_never b off t =
     (λ (running : b.cycle.running ≡ true).
     untimed_stores t b running (sym (ap (λ (runs : Bool). runs && is_timed b.registers) running) ∙ off))
     (λ (stopped : b.cycle.running ≡ false). idle_stores t b stopped)
-    (true_or_false b.cycle.running)
+    (cases_Bool b.cycle.running)
 
 pub next_is : (b : Board) → next_store b ≡ ticks_to_next_store b.registers b.cycle
 next_is b =
     ⊎_elim
     (λ (on : (b.cycle.running && is_timed b.registers) ≡ true).
     coming_next b (ticks_to_store b.registers b.cycle)
-    (timed_comes b (and_left b.cycle.running (is_timed b.registers) on) (and_right b.cycle.running (is_timed b.registers) on))
+    (timed_comes b (and_parts _ _ on).0 (and_parts _ _ on).1)
     ∙ sym (ap (λ (t : Bool). cond t (within_advance (ticks_to_store b.registers b.cycle)) 0) on))
     (λ (off : (b.cycle.running && is_timed b.registers) ≡ false).
     next_none b (λ t most. idle_never b off t)
     ∙ sym (ap (λ (t : Bool). cond t (within_advance (ticks_to_store b.registers b.cycle)) 0) off))
-    (true_or_false (b.cycle.running && is_timed b.registers))
+    (cases_Bool (b.cycle.running && is_timed b.registers))
 
 -- ---- the theorems
 
@@ -512,7 +464,7 @@ next_stores b =
           ⊎_elim
           (λ (more : 16_777_216 < ticks). refused_value b ticks more)
           (λ (most : ticks ≤ 16_777_216). accepted_value b ticks most ∙ m.none ticks most)
-          (lt_or_le 16_777_216 ticks);
+          (cases_lt 16_777_216 ticks);
     })
     (searched 16_777_216 0 b)
 
@@ -528,7 +480,7 @@ after_most r index fit =
     (either_most (is_single r) (64 + (pass_length r - (index + 1)) * interval r) 0 16_129 (omega arith) (omega arith)))
     (λ (free : is_crowded r ≡ false).
     subst (λ (t : Bool). cond t (cond (is_single r) (64 + (pass_length r - (index + 1)) * interval r) 0) 64 ≤ 16_129) (sym free) (omega arith))
-    (true_or_false (is_crowded r))
+    (cases_Bool (is_crowded r))
 
 ticks_most : (r : Registers) (c : Cycle) → Fitting r → Near c → ticks_to_store r c ≤ 16_777_216
 ticks_most r c fit near =
@@ -550,9 +502,9 @@ no_more b h none =
       next_found b (ticks_to_store b.registers b.cycle) first (ticks_most b.registers b.cycle h.registers h.cycle),
     )))
     (λ (never : (ticks_to_store b.registers b.cycle ≡ 0) × Never b). never.1)
-    (timed_comes b (and_left b.cycle.running (is_timed b.registers) on) (and_right b.cycle.running (is_timed b.registers) on)))
+    (timed_comes b (and_parts _ _ on).0 (and_parts _ _ on).1))
     (λ (off : (b.cycle.running && is_timed b.registers) ≡ false). idle_never b off)
-    (true_or_false (b.cycle.running && is_timed b.registers))
+    (cases_Bool (b.cycle.running && is_timed b.registers))
 
 never_later : (n : ℕ) (b : Board) → Never b → Never (advanced n b)
 never_later n b never k = omega (arith, stores_add n k b, never n, never (n + k))
@@ -568,7 +520,7 @@ never_stored (n ∷ ns) b never =
     (λ (most : n ≤ 16_777_216).
     ap₂ ◌+◌ (accepted_value b n most ∙ never n)
     (never_stored ns (advance_call b n).board (subst Never (sym (accepted_board b n most)) (never_later n b never))))
-    (lt_or_le 16_777_216 n)
+    (cases_lt 16_777_216 n)
 
 pub last_stores : EveryLastStore
 last_stores range valid calls none ns =

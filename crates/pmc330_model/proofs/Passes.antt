@@ -3,13 +3,13 @@ use mathlib.Core.Bool.{Bool, true, false, cond, ◌&&◌}
 use mathlib.Core.Logic.{⊎_elim}
 use mathlib.Core.Path.{◌≡◌, refl, sym, ap, ap₂, ◌∙◌}
 use Prim.Native.Nat.{ℕ, suc, ◌+◌, ◌-◌, ◌*◌, ◌/◌, ◌%◌, ◌≤◌, ◌<◌}
-use native.Mathlib.Nat.{add-mul, mul_assoc, suc-mul, zero-mul, mul-pos, mul-le-mul_right, div-add-mod', div-lt_iff_lt-mul, mul-add-div_right, mul-add-mod_self_right, mod-lt, mod-eq_of_lt, div-eq_of_lt}
+use native.Mathlib.Nat.{add-mul, mul_assoc, suc-mul, zero-mul, mul-le-mul_right, div-add-mod', div-lt_iff_lt-mul, mul-add-div_right, mul-add-mod_self_right, mod-lt, mod-eq_of_lt, div-eq_of_lt}
 use native.Mathlib.Omega.{arith}
 use lib.Dec.{eqb}
+use Rattle.std.proofs.lemmas.Bool.{cases_lt}
 use Rattle.pmc330_model.specs.Schedule.{pass_length, interval, is_differential, is_uniform, channel_of, in_odd_pass, slot_of, burst_delay, begins_at, pass_ticks}
 use Rattle.pmc330_model.specs.Waiting.{slot_passes}
 use Rattle.pmc330_model.specs.declared.Registers.{Registers}
-use Rattle.pmc330_model.proofs.Cases.{lt_or_le}
 use Rattle.pmc330_model.proofs.Schedule.{place_below}
 
 -- of periods of some ticks, the one whose moment, 64 ticks later, falls into a span of one period and some ticks more
@@ -32,7 +32,7 @@ falls T t period more moment from some within =
       after = rw (suc-mul (passed / period) period) (omega arith);
       by = rw (suc-mul (passed / period) period) (omega arith);
     })
-    (lt_or_le t (T + moment + 64))
+    (cases_lt t (T + moment + 64))
 
 module _ (r : Registers) where
   abbrev m : ℕ
@@ -114,8 +114,4 @@ module _ (r : Registers) where
   stored_within burst i h = rw (burst, div-eq_of_lt h, mod-eq_of_lt h, zero-mul (120 * m + burst_delay r)) (omega arith)
 
   pub pass_some : (is_uniform r ≡ true → 64 ≤ interval r) → 0 < pass_ticks r
-  pass_some slow = go (is_uniform r) slow
-    where
-      go : (u : Bool) → (u ≡ true → 64 ≤ interval r) → 0 < cond u (m * interval r) (120 * m + burst_delay r)
-      go true h = mul-pos some_places (omega (arith, h refl))
-      go false h = omega arith
+  pass_some slow = grind arith

@@ -1,17 +1,14 @@
 -- The questions of a call: where none meets a no, each is met.
 use mathlib.Core.Bool.{Bool, true, false}
 use mathlib.Core.List.{List, ◌∷◌}
-use mathlib.Core.Path.{◌≡◌, refl}
+use mathlib.Core.Path.{◌≡◌}
 use Prim.Native.Nat.{ℕ}
 use native.Mathlib.Omega.{arith}
-use borrow.Author.Tests.{not-true}
 use Rattle.analog.specs.Answers.{Question, question, first_no}
-use Rattle.analog.proofs.AnswerLaws.{number_some}
 use Rattle.analog.specs.declared.Refusal.{Refusal}
 use Rattle.pmc330_model.specs.Map.{class_of}
 use Rattle.pmc330_model.specs.declared.Register.{Register}
-use Rattle.pmc330_model.specs.declared.Register.TheVariants.{Unmapped, Interrupt, Control, Prescaler, Timer, Channels, StartConvert, NewData, MissedData, Gain, Mailbox}
-use Rattle.pmc330_model.specs.Words.{with_word, bit_of, is_start}
+use Rattle.pmc330_model.specs.Words.{with_word, is_start}
 use Rattle.pmc330_model.specs.Calls.{write}
 use Rattle.pmc330_model.specs.Questions.{is_allowed, word_questions, resulting_word, call_questions}
 use Rattle.pmc330_model.specs.declared.Registers.{Registers}
@@ -19,29 +16,17 @@ use Rattle.pmc330_model.specs.declared.Registers.{Registers}
 -- where no question meets a no, each is met
 pub first_met : (refusal : Refusal) (met : Bool) (later : List Question) → first_no (question refusal met ∷ later) ≡ 0 → met ≡ true
 unfolding first_no
-first_met refusal true later e = refl
-first_met refusal false later e = absurd (omega (arith, e, number_some refusal))
+first_met refusal met later e = grind arith
 
 pub rest_met : (refusal : Refusal) (met : Bool) (later : List Question) → first_no (question refusal met ∷ later) ≡ 0 → first_no later ≡ 0
 unfolding first_no
-rest_met refusal true later e = e
-rest_met refusal false later e = absurd (omega (arith, e, number_some refusal))
+rest_met refusal met later e = grind arith
 
 -- question 6: a cycle that runs is not started again
 no_start :
     (register : Register) (word : ℕ) (resulting : Registers) → is_allowed false register word resulting ≡ true
     → is_start register word ≡ false
-no_start Unmapped word resulting e = refl
-no_start Interrupt word resulting e = refl
-no_start Control word resulting e = refl
-no_start Prescaler word resulting e = refl
-no_start Timer word resulting e = refl
-no_start Channels word resulting e = refl
-no_start StartConvert word resulting e = not-true (bit_of 0 word) e
-no_start (NewData half) word resulting e = refl
-no_start (MissedData half) word resulting e = refl
-no_start (Gain group) word resulting e = refl
-no_start (Mailbox slot) word resulting e = refl
+no_start register word resulting e = grind arith
 
 module _ (r : Registers) (gains : List ℕ) (width offset value : ℕ)
     (met : first_no (call_questions r gains false (write width offset value)) ≡ 0) where

@@ -1,28 +1,26 @@
 -- What is read: a joined word's digits, the words of the board and of its logbook, and sentence 3 of the two.
-use mathlib.Core.Bool.{Bool, true, false, cond, ◌&&◌}
-use mathlib.Core.List.{List, [], ◌∷◌}
-use mathlib.Core.Logic.{⊎_elim}
-use mathlib.Core.Path.{◌≡◌, refl, sym, ap, ◌∙◌}
+use mathlib.Core.Bool.{Bool, true, cond, ◌&&◌}
+use mathlib.Core.List.{List}
+use mathlib.Core.Path.{◌≡◌, refl, ap, ◌∙◌}
 use Prim.Native.Nat.{ℕ, zero, suc, ◌+◌, ◌-◌, ◌*◌, ◌/◌, ◌%◌, ◌^◌, ◌≤◌, ◌<◌, min}
-use native.Mathlib.Nat.{zero-add, suc-add, add_comm, add-sub_cancel_left, mul_comm, mul_assoc, pow-zero, pow-suc, pow-succ', one-le-pow, mod-eq_of_lt, add-mul-div_right, add-mul-mod_self_right}
+use native.Mathlib.Nat.{zero-add, suc-add, add_comm, mul_comm, mul_assoc, pow-zero, pow-suc, pow-succ', one-le-pow, mod-eq_of_lt, add-mul-div_right, add-mul-mod_self_right}
 use native.Mathlib.Omega.{arith}
 use lib.Arith.{digits_lt, digits_div}
 use lib.Pow.{pow-add}
 use lib.Dec.{eqb, ltb, leb}
 use lib.ListN.{get_or}
-use borrow.Author.Tests.{eq-eqb, lt-ltb, le-ltb, le-leb, lt-leb, ltb-true}
+use borrow.Author.Tests.{eq-eqb, lt-ltb}
 use Rattle.analog.specs.Answers.{first_no, value_of, is_accepted, Answer}
 use Rattle.analog.proofs.AnswerLaws.{none_asked, answered_ok}
-use Rattle.pmc330_model.specs.Map.{low_words, word_at, class_of, is_mapped, is_readable}
+use Rattle.pmc330_model.specs.Map.{word_at, class_of, is_mapped, is_readable}
 use Rattle.pmc330_model.specs.declared.Register.{Register}
-use Rattle.pmc330_model.specs.declared.Register.TheVariants.{Unmapped, Interrupt, Control, Prescaler, Timer, Channels, StartConvert, NewData, MissedData, Gain, Mailbox}
+use Rattle.pmc330_model.specs.declared.Register.TheVariants.{Interrupt, NewData, MissedData, Gain, Mailbox}
 use Rattle.pmc330_model.specs.Words.{joined, to_bit, bit_of, held_word, read_word, look_value}
 use Rattle.pmc330_model.specs.Questions.{read_questions, call_questions}
 use Rattle.pmc330_model.specs.Board.{view_of, value_of_call, board_call, read_call}
 use Rattle.pmc330_model.specs.Logbook.{Event, Running, last_store, stores_since, interrupted, logbook_view}
 use Rattle.pmc330_model.specs.Sentences.{ReadsBit, Sentence3}
 use Rattle.pmc330_model.specs.declared.Board.{Board}
-use Rattle.pmc330_model.proofs.Cases.{lt_or_le}
 use Rattle.pmc330_model.proofs.Agreement.{book_of, Agrees}
 use Rattle.std.specs.Prelude.{Ok}
 
@@ -78,38 +76,18 @@ joined_same base f g (suc n) same =
 
 -- a slot is below 32, a half below 2 and a group of gains below 4: the agreement is about no others
 abbrev Placed : Register → Type 0
-Placed Unmapped = Unit
-Placed Interrupt = Unit
-Placed Control = Unit
-Placed Prescaler = Unit
-Placed Timer = Unit
-Placed Channels = Unit
-Placed StartConvert = Unit
 Placed (NewData half) = half < 2
 Placed (MissedData half) = half < 2
 Placed (Gain group) = group < 4
 Placed (Mailbox slot) = slot < 32
-
-abbrev AllPlaced : List Register → Type 0
-AllPlaced [] = Unit
-AllPlaced (x ∷ xs) = Placed x × AllPlaced xs
-
-placed_in : (xs : List Register) (n : ℕ) → AllPlaced xs → Placed (get_or xs n Unmapped)
-placed_in [] n all = tt
-placed_in (x ∷ xs) zero all = all.0
-placed_in (x ∷ xs) (suc n) all = placed_in xs n all.1
+Placed _ = Unit
 
 placed_either : (t : Bool) (x y : Register) → (t ≡ true → Placed x) → Placed y → Placed (cond t x y)
-placed_either true x y one other = one refl
-placed_either false x y one other = other
+placed_either t x y one other = grind arith
 
 placed_word : (n : ℕ) → Placed (word_at n)
 unfolding word_at
-placed_word n =
-    placed_either (ltb n 0x10) _ _ (λ low. placed_in low_words n (omega arith))
-    (placed_either (ltb n 0x14) _ _ (λ low. omega (arith, ltb-true n 0x14 low))
-    (placed_either (ltb n 0x20) _ _ (λ low. tt)
-    (placed_either (ltb n 0x40) _ _ (λ low. omega (arith, ltb-true n 0x40 low)) tt)))
+placed_word n = grind arith
 
 -- every register that an offset has is so
 placed : (offset : ℕ) → Placed (class_of offset)
@@ -125,47 +103,24 @@ pub record ReadAt (n : ℕ) (register : Register) : Type 0 where
 
 pub mailbox_at : (s : ℕ) → s < 32 → ReadAt (0x20 + s) (Mailbox s)
 unfolding word_at
-mailbox_at s h = record { low = omega arith; is = word; mapped = refl; readable = refl }
-  where
-    past : (k : ℕ) → k ≤ 0x20 → ltb (0x20 + s) k ≡ false
-    past k most = le-ltb (0x20 + s) k (omega arith)
-
-    word : word_at (0x20 + s) ≡ Mailbox s
-    word =
-        rw (past 0x10 (omega arith), past 0x14 (omega arith), past 0x20 (omega arith), lt-ltb (0x20 + s) 0x40 (omega arith))
-        (ap Mailbox (add-sub_cancel_left 0x20 s))
-
--- New Data and Missed Data are two words each
-of_halves : (P : ℕ → Type 0) → P 0 → P 1 → (half : ℕ) → half < 2 → P half
-of_halves P lower upper zero h = lower
-of_halves P lower upper (suc zero) h = upper
-of_halves P lower upper (suc (suc n)) h = absurd (omega arith)
+mailbox_at s h = grind arith
 
 new_data_at : (half : ℕ) → half < 2 → ReadAt (5 + half) (NewData half)
 unfolding word_at
-new_data_at half h = record { low = omega arith; is = word; mapped = refl; readable = refl }
-  where
-    word : word_at (5 + half) ≡ NewData half
-    word = of_halves (λ x. word_at (5 + x) ≡ NewData x) refl refl half h
+new_data_at half h = grind arith
 
 missed_data_at : (half : ℕ) → half < 2 → ReadAt (7 + half) (MissedData half)
 unfolding word_at
-missed_data_at half h = record { low = omega arith; is = word; mapped = refl; readable = refl }
-  where
-    word : word_at (7 + half) ≡ MissedData half
-    word = of_halves (λ x. word_at (7 + x) ≡ MissedData x) refl refl half h
+missed_data_at half h = grind arith
 
 interrupt_at : ReadAt 0 Interrupt
 unfolding word_at
-interrupt_at = record { low = omega arith; is = refl; mapped = refl; readable = refl }
+interrupt_at = grind arith
 
 -- the register at either live byte of a word is that of the word
 pub class_is : (n byte offset : ℕ) → byte < 2 → offset ≡ 4 * n + byte → class_of offset ≡ word_at n
 unfolding class_of
-class_is n byte offset live e =
-    let first : offset % 4 ≡ byte = omega arith in
-    let word : offset / 4 ≡ n = omega arith in
-    rw (first, word, lt-ltb byte 2 live)
+class_is n byte offset live e = grind arith
 
 -- a 16-bit read of a word meets every question
 pub word_met :
@@ -190,12 +145,10 @@ word_read b n offset register e place small =
 -- ---- bits
 
 bit_small : (t : Bool) → to_bit t < 2
-bit_small true = omega arith
-bit_small false = omega arith
+bit_small t = grind arith
 
 bit_back : (t : Bool) → eqb (to_bit t) 1 ≡ t
-bit_back true = refl
-bit_back false = refl
+bit_back t = grind arith
 
 -- the word of New or Missed Data for sixteen slots, and the bit of a slot in it
 abbrev flag_word : (is_set : ℕ → Bool) (half : ℕ) → ℕ
@@ -211,19 +164,13 @@ flag_bit is_set s =
 
 -- bit 1 of the Interrupt word
 pending_bit : (enable pending : Bool) → bit_of 1 (to_bit enable + to_bit pending * 2) ≡ pending
-pending_bit enable pending =
-    let e : (to_bit enable + to_bit pending * 2) / 2 % 2 ≡ to_bit pending = omega (arith, bit_small enable, bit_small pending) in
-    rw e (bit_back pending)
+pending_bit enable pending = grind arith
 
 -- ---- a board and its logbook
 
 -- a count that stands still at 2 reaches 1 and 2 as the stores themselves do
 reaches_same : (k count stores : ℕ) → k ≤ 2 → count ≡ min 2 stores → leb k count ≡ leb k stores
-reaches_same k count stores low e =
-    ⊎_elim
-    (λ (few : stores < k). lt-leb k count (omega arith) ∙ sym (lt-leb k stores few))
-    (λ (many : k ≤ stores). le-leb k count (omega arith) ∙ sym (le-leb k stores many))
-    (lt_or_le stores k)
+reaches_same k count stores low e = grind arith
 
 module _ (b : Board) (tick : ℕ) (cycle : Running) (events : List Event) where
   -- the stores of a slot that were not read reach a threshold: 1 for New, 2 for Missed
@@ -245,17 +192,11 @@ module _ (b : Board) (tick : ℕ) (cycle : Running) (events : List Event) where
 
     same_word : (register : Register) → Placed register → read_word (view_of b) register ≡ logged register
     unfolding read_word
-    same_word Unmapped fits = refl
     same_word Interrupt fits = rw agrees.memory.interrupt
-    same_word Control fits = refl
-    same_word Prescaler fits = refl
-    same_word Timer fits = refl
-    same_word Channels fits = refl
-    same_word StartConvert fits = refl
     same_word (NewData half) fits = flags_same 1 half (omega arith) fits
     same_word (MissedData half) fits = flags_same 2 half (omega arith) fits
-    same_word (Gain group) fits = refl
     same_word (Mailbox slot) fits = agrees.memory.code slot fits
+    same_word _ fits = refl
 
     pub words_agree :
         (offset : ℕ)
@@ -264,12 +205,7 @@ module _ (b : Board) (tick : ℕ) (cycle : Running) (events : List Event) where
 
     -- a look at a slot shows what the events say
     pub look_agrees : (slot : ℕ) → slot < 32 → look_value (view_of b) slot ≡ look_value (logbook_view (book_of b tick cycle events)) slot
-    look_agrees slot h =
-        simp (
-          agrees.memory.code slot h,
-          reaches_same 1 _ _ (omega arith) (agrees.memory.count slot h),
-          reaches_same 2 _ _ (omega arith) (agrees.memory.count slot h),
-        )
+    look_agrees slot h = grind arith
 
     -- a 16-bit read of the board gives the logbook's word
     logged_read :

@@ -4,7 +4,8 @@ use Prim.Native.Nat.{ℕ}
 use borrow.Author.Tests.{eq-eqb, ne_eqb}
 use Rattle.analog.specs.Answers.{first_no, asked}
 use Rattle.analog.specs.declared.Refusal.{Refusal}
-use Rattle.analog.proofs.AnswerLaws.{number_some, none_asked, err_first, answered_ok, answered_err}
+use Rattle.analog.proofs.RefusalLaws.{number_some}
+use Rattle.analog.proofs.AnswerLaws.{none_asked, err_first, answered_ok, answered_err}
 use native.Mathlib.Omega.{arith}
 use Rattle.pmc330_model.specs.Calls.{Call}
 use Rattle.pmc330_model.specs.Board.{questions_of, after_call, value_of_call, board_call}

@@ -1,16 +1,14 @@
 -- The schedule's laws: the step from a conversion to the next, the gap between two, and what the search finds.
 use mathlib.Core.Bool.{Bool, true, false, not, cond}
-use mathlib.Core.Logic.{◌⊎◌, inl, inr, ⊎_elim}
+use mathlib.Core.Logic.{◌⊎◌, inl, inr}
 use mathlib.Core.Path.{◌≡◌, refl}
 use Prim.Native.Nat.{ℕ, zero, suc, ◌+◌, ◌-◌, ◌*◌, ◌/◌, ◌%◌, ◌≤◌, ◌<◌}
 use native.Mathlib.Nat.{eq-or-lt_of_le, div-add-mod', mod-lt, add-zero, suc-add, add-suc, suc-mul}
 use native.Mathlib.Omega.{arith}
 use lib.Arith.{digits_div, digits_mod}
 use lib.Dec.{eqb}
-use borrow.Author.Tests.{eq-eqb, ne_eqb}
 use Rattle.pmc330_model.specs.Schedule.{pass_length, interval, is_uniform, ends_pass, burst_delay, begins_at, none, conversion, first_from}
 use Rattle.pmc330_model.specs.declared.Registers.{Registers}
-use Rattle.pmc330_model.proofs.Cases.{lt_or_le}
 
 -- the next number's quotient and remainder, inside a pass
 module _ (k m : ℕ) (inside : suc (k % m) < m) where
@@ -36,17 +34,7 @@ module _ (k m : ℕ) (ends : suc (k % m) ≡ m) where
 
 -- parity turns with each pass
 pub odd_next : (n : ℕ) → eqb (suc n % 2) 1 ≡ not (eqb (n % 2) 1)
-odd_next n =
-    ⊎_elim
-    (λ (even : n % 2 < 1).
-    let none : n % 2 ≡ 0 = omega arith in
-    let one : suc n % 2 ≡ 1 = omega arith in
-    rw (none, one))
-    (λ (odd : 1 ≤ n % 2).
-    let one : n % 2 ≡ 1 = omega (arith, mod-lt n {m = 2} (omega arith)) in
-    let none : suc n % 2 ≡ 0 = omega arith in
-    rw (one, none))
-    (lt_or_le (n % 2) 1)
+odd_next n = grind arith
 
 module _ (r : Registers) where
   -- the place of a conversion in its pass
@@ -62,10 +50,10 @@ module _ (r : Registers) where
   inside_or_ends k = eq-or-lt_of_le (place_below k)
 
   pub ends_is : (k : ℕ) → suc (k % pass_length r) ≡ pass_length r → ends_pass r k ≡ true
-  ends_is k e = eq-eqb (k % pass_length r + 1) (pass_length r) (omega arith)
+  ends_is k e = grind arith
 
   pub inside_is : (k : ℕ) → suc (k % pass_length r) < pass_length r → ends_pass r k ≡ false
-  inside_is k h = ne_eqb (k % pass_length r + 1) (pass_length r) (λ e. omega arith)
+  inside_is k h = grind arith
 
   uniform_step : (k I : ℕ) → (suc k + 1) * I ≡ (k + 1) * I + I
   uniform_step k I = rw (suc-add k 1, suc-mul (k + 1) I)
@@ -89,11 +77,7 @@ module _ (r : Registers) where
 
   module _ (slow : is_uniform r ≡ true → 64 ≤ interval r) where
     pub step_long : (ends : Bool) → 64 ≤ step_after ends
-    step_long ends = go (is_uniform r) refl
-      where
-        go : (u : Bool) → is_uniform r ≡ u → 64 ≤ cond u (interval r) (120 + cond ends (burst_delay r) 0)
-        go true e = slow e
-        go false e = omega arith
+    step_long ends = grind arith
 
     -- a beginning is at least 64 ticks after the one before
     pub apart : (k : ℕ) → begins_at r k + 64 ≤ begins_at r (suc k)

@@ -2,27 +2,26 @@
 use mathlib.Core.Bool.{Bool, true, false, not, cond, ◌&&◌}
 use mathlib.Core.List.{List, [], ◌∷◌}
 use mathlib.Core.Logic.{⊎_elim}
-use mathlib.Core.Path.{◌≡◌, refl, sym, ap, ap₂, subst, ◌∙◌}
+use mathlib.Core.Path.{◌≡◌, refl, sym, ap, subst, ◌∙◌}
 use Prim.Native.Nat.{ℕ, zero, suc, ◌+◌, ◌-◌, ◌≤◌, ◌<◌}
 use native.Mathlib.Nat.{add-zero, add-suc, suc-add}
 use native.Mathlib.Omega.{arith}
 use lib.Dec.{eqb, leb}
 use lib.ListN.{length}
 use borrow.Author.Tests.{eq-eqb, ne_eqb, eqb-true, le-leb, leb-true}
+use Rattle.std.proofs.lemmas.Bool.{cases_lt, cases_Bool, and_parts}
 use Rattle.analog.specs.Answers.{first_no, all_met}
 use Rattle.analog.proofs.AnswerLaws.{none_first, some_first}
 use Rattle.pmc330_model.specs.Map.{class_of, trigger_field}
 use Rattle.pmc330_model.specs.declared.Register.{Register}
-use Rattle.pmc330_model.specs.declared.Register.TheVariants.{Unmapped, Interrupt, Control, Prescaler, Timer, Channels, StartConvert, NewData, MissedData, Gain, Mailbox}
 use Rattle.pmc330_model.specs.Words.{is_release, is_stop, is_start}
-use Rattle.pmc330_model.specs.Schedule.{is_burst, is_single, is_timed, is_trigger_only, channel_of, ends_pass, code_at, begins_at, is_scheduled, Due, none, conversion, or_else, first_from}
-use Rattle.pmc330_model.specs.Calls.{Call, read, write, input, advance, trigger, reset, look, clear}
+use Rattle.pmc330_model.specs.Schedule.{is_single, is_timed, is_trigger_only, channel_of, ends_pass, code_at, begins_at, is_scheduled, Due, none, conversion, or_else, first_from}
+use Rattle.pmc330_model.specs.Calls.{Call, read, write, advance, trigger, reset}
 use Rattle.pmc330_model.specs.Questions.{call_questions, resulting_word, has_channels, has_interval}
-use Rattle.pmc330_model.specs.Logbook.{Event, Running, idle, since, release, cycle_start, was_read, Logbook, with_happened, begins, stores, stores_in_time, due_after, if_due, stores_due, begins_due, tick_passes, ticks_pass, starts, is_taken, stores_before, takes, arms_by_trigger, triggered_in, trigger_comes, read_event, writes, happens, is_idle, logbook_questions, logged}
+use Rattle.pmc330_model.specs.Logbook.{Event, Running, idle, since, release, was_read, Logbook, with_happened, begins, stores, due_after, if_due, begins_due, tick_passes, ticks_pass, starts, is_taken, stores_before, takes, arms_by_trigger, triggered_in, trigger_comes, read_event, writes, happens, is_idle, logbook_questions, logged}
 use Rattle.pmc330_model.specs.Sentences.{InCycle, may_store, stores_among, Scheduled, is_timeless, EveryTick}
 use Rattle.pmc330_model.specs.declared.Registers.{Registers}
 use Rattle.pmc330_model.proofs.Agreement.{Startable}
-use Rattle.pmc330_model.proofs.Cases.{lt_or_le, true_or_false, and_left, and_right, never}
 use Rattle.pmc330_model.proofs.Due.{due_found, due_none, unscheduled_later, scheduled_next}
 use Rattle.pmc330_model.proofs.QuestionLaws.{running_unstarted}
 use Rattle.pmc330_model.proofs.Schedule.{before, search_none}
@@ -32,7 +31,7 @@ use Rattle.pmc330_model.proofs.Schedule.{before, search_none}
 -- what the search finds passes the test
 search_real : (test : ℕ → Bool) (n from k : ℕ) → first_from test n from ≡ conversion k → test k ≡ true
 unfolding first_from
-search_real test zero from k e = let z : ◌≡◌ {A = ℕ} 0 1 = cc in absurd (omega arith)
+search_real test zero from k e = cc
 search_real test (suc n) from k e = go (test from) refl (search_real test n (suc from) k) e
   where
     go :
@@ -55,11 +54,7 @@ record Same (before after : Logbook) : Type 0 where
   cycle : after.cycle ≡ before.cycle
 
 begins_same : (l : Logbook) → Same l (begins_due l)
-begins_same l = go (due_after 0 l.registers l.tick l.cycle)
-  where
-    go : (due : Due) → Same l (if_due due begins l)
-    go none = record { registers = refl; events = refl; tick = refl; cycle = refl }
-    go (conversion k) = record { registers = refl; events = refl; tick = refl; cycle = refl }
+begins_same l = grind arith
 
 -- whether the store that is due ends a single cycle
 abbrev pub ends_cycle : Registers → Due → Bool
@@ -73,24 +68,9 @@ pub record Stored (l after : Logbook) (due : Due) : Type 0 where
   pub tick : after.tick ≡ suc l.tick
   pub cycle : after.cycle ≡ cond (ends_cycle l.registers due) idle l.cycle
 
-stored_is : (l : Logbook) (due : Due) → due_after 64 l.registers (suc l.tick) l.cycle ≡ due → Stored l (stores_due (next l)) due
-stored_is l due e = subst (λ (d : Due). Stored l (if_due d stores_in_time (next l)) due) (sym e) (go due)
-  where
-    go : (d : Due) → Stored l (if_due d stores_in_time (next l)) d
-    go none = record { registers = refl; events = refl; tick = refl; cycle = refl }
-    go (conversion k) = record { registers = refl; events = refl; tick = refl; cycle = refl }
-
 pub tick_is : (l : Logbook) (due : Due) → due_after 64 l.registers (suc l.tick) l.cycle ≡ due → Stored l (tick_passes l) due
 unfolding tick_passes
-tick_is l due e =
-    let stored = stored_is l due e in
-    let same = begins_same (stores_due (next l)) in
-    record {
-      registers = same.registers ∙ stored.registers;
-      events = same.events ∙ stored.events;
-      tick = same.tick ∙ stored.tick;
-      cycle = same.cycle ∙ stored.cycle;
-    }
+tick_is l due e = grind arith
 
 -- the code that the tick takes, by what begins at it once the store is made
 tick_taken :
@@ -98,30 +78,12 @@ tick_taken :
     → due_after 0 l.registers (suc l.tick) (cond (ends_cycle l.registers stored) idle l.cycle) ≡ due
     → (tick_passes l).taken ≡ (if_due due begins l).taken
 unfolding tick_passes
-tick_taken l stored due e f =
-    subst (λ (d : Due). (begins_due (if_due d stores_in_time (next l))).taken ≡ (if_due due begins l).taken) (sym e) (after stored f)
-  where
-    given : (d : Due) → (if_due d begins l).taken ≡ (if_due d begins (next l)).taken
-    given none = refl
-    given (conversion k) = refl
-
-    held : (d : Due) (k : ℕ) → (if_due d begins (next l)).taken ≡ (if_due d begins (stores_in_time k (next l))).taken
-    held none k = refl
-    held (conversion j) k = refl
-
-    after :
-        (d : Due) → due_after 0 l.registers (suc l.tick) (cond (ends_cycle l.registers d) idle l.cycle) ≡ due
-        → (begins_due (if_due d stores_in_time (next l))).taken ≡ (if_due due begins l).taken
-    after none f = ap (λ (x : Due). (if_due x begins (next l)).taken) f ∙ sym (given due)
-    after (conversion k) f =
-        ap (λ (x : Due). (if_due x begins (stores_in_time k (next l))).taken) f ∙ sym (held due k) ∙ sym (given due)
+tick_taken l stored due e f = grind arith
 
 -- a tick at which nothing is due
 tick_none : (l : Logbook) → ((delay : ℕ) → due_after delay l.registers (suc l.tick) l.cycle ≡ none) → tick_passes l ≡ next l
 unfolding tick_passes
-tick_none l none-due =
-    ap (λ (d : Due). begins_due (if_due d stores_in_time (next l))) (none-due 64)
-    ∙ ap (λ (d : Due). if_due d begins (next l)) (none-due 0)
+tick_none l h = grind arith
 
 -- a mode that is not timed has no conversion in time, and neither has an idle board
 untimed_due : (delay : ℕ) (r : Registers) (tick : ℕ) (cycle : Running) → is_timed r ≡ false → due_after delay r tick cycle ≡ none
@@ -147,7 +109,7 @@ module _ (l : Logbook) (T : ℕ) (triggers : List ℕ) (running : l.cycle ≡ si
   real delay tick k e =
       let passed = search_real (λ i. is_scheduled r i && eqb (T + begins_at r i + delay) tick) (suc tick) 0 k e in
       let at = eqb (T + begins_at r k + delay) tick in
-      (and_left (is_scheduled r k) at passed, eqb-true _ _ (and_right (is_scheduled r k) at passed))
+      ((and_parts _ _ passed).0, eqb-true _ _ (and_parts _ _ passed).1)
 
   one : (i k : ℕ) → begins_at r i ≡ begins_at r k → i ≡ k
   one i k e =
@@ -157,8 +119,8 @@ module _ (l : Logbook) (T : ℕ) (triggers : List ℕ) (running : l.cycle ≡ si
       ⊎_elim
       (λ (more : k < i). absurd (omega (arith, before r startable.slow k i more)))
       (λ (most : i ≤ k). omega arith)
-      (lt_or_le k i))
-      (lt_or_le i k)
+      (cases_lt k i))
+      (cases_lt i k)
 
   -- a conversion that begins later has a number above
   after : (j k : ℕ) → begins_at r j + 64 ≡ begins_at r k → suc j ≤ k
@@ -169,8 +131,8 @@ module _ (l : Logbook) (T : ℕ) (triggers : List ℕ) (running : l.cycle ≡ si
       ⊎_elim
       (λ (more : k < j). absurd (omega (arith, before r startable.slow k j more)))
       (λ (most : j ≤ k). let same : j ≡ k = omega arith in absurd (omega (arith, ap (begins_at r) same)))
-      (lt_or_le k j))
-      (lt_or_le j k)
+      (cases_lt k j))
+      (cases_lt j k)
 
   found_now : (delay k : ℕ) → is_scheduled r k ≡ true → T + begins_at r k + delay ≡ suc l.tick → due_after delay r (suc l.tick) l.cycle ≡ conversion k
   found_now delay k scheduled at =
@@ -192,9 +154,9 @@ module _ (l : Logbook) (T : ℕ) (triggers : List ℕ) (running : l.cycle ≡ si
       ⊎_elim
       (λ (last : (is_single r && ends_pass r j) ≡ true).
       let off : is_scheduled r (suc j) ≡ false = scheduled_next r timed j stored.0 ∙ ap not last in
-      never (is_scheduled r k) scheduled (unscheduled_later r timed (suc j) k off less))
+      cc (unscheduled_later r timed (suc j) k off less))
       (λ (more : (is_single r && ends_pass r j) ≡ false). more)
-      (true_or_false (is_single r && ends_pass r j))
+      (cases_Bool (is_single r && ends_pass r j))
 
   begun :
       (k : ℕ) → is_scheduled r k ≡ true → T + begins_at r k ≡ suc l.tick
@@ -229,11 +191,7 @@ module _ (l : Logbook) (T : ℕ) (triggers : List ℕ) (running : l.cycle ≡ si
 -- what holds of a logbook before a call and after it has happened holds after the call, refused or not
 pub either : (P : Logbook → Type 0) (l : Logbook) (call : Call) → (first_no (logbook_questions l call) ≡ 0 → P (happens l call)) → P l → P (logged l call)
 unfolding logged
-either P l call happened before = go (eqb (first_no (logbook_questions l call)) 0) refl
-  where
-    go : (accepted : Bool) → eqb (first_no (logbook_questions l call)) 0 ≡ accepted → P (cond accepted (happens l call) l)
-    go true e = happened (eqb-true _ _ e)
-    go false e = before
+either P l call happened before = grind arith
 
 -- a start makes no store and takes no time
 pub record Still (before after : Logbook) : Type 0 where
@@ -242,11 +200,7 @@ pub record Still (before after : Logbook) : Type 0 where
 
 pub start_still : (l : Logbook) → Still l (starts l)
 unfolding starts stores_among
-start_still l = go (is_burst l.registers) (with_happened l l.tick l.taken (since l.tick []) (cycle_start ∷ l.events)) refl refl
-  where
-    go : (burst : Bool) (fresh : Logbook) → stores_among fresh.events ≡ stores_among l.events → fresh.tick ≡ l.tick → Still l (cond burst (begins 0 fresh) fresh)
-    go true fresh made tick = record { made = made; tick = tick }
-    go false fresh made tick = record { made = made; tick = tick }
+start_still l = grind arith
 
 if_starts : (l written : Logbook) (start : Bool) → Still l written → Still l (cond start (starts written) written)
 if_starts l written true h =
@@ -257,17 +211,7 @@ if_starts l written false h = h
 pub read_either :
     (P : List Event → Type 0) (register : Register) (events : List Event) → P events → ((slot : ℕ) → P (was_read slot ∷ events))
     → P (read_event register events)
-read_either P Unmapped events same more = same
-read_either P Interrupt events same more = same
-read_either P Control events same more = same
-read_either P Prescaler events same more = same
-read_either P Timer events same more = same
-read_either P Channels events same more = same
-read_either P StartConvert events same more = same
-read_either P (NewData half) events same more = same
-read_either P (MissedData half) events same more = same
-read_either P (Gain group) events same more = same
-read_either P (Mailbox slot) events same more = more slot
+read_either P register events same more = grind arith
 
 write_still : (register : Register) (word : ℕ) (l : Logbook) → Still l (writes register word l)
 unfolding writes stores_among
@@ -313,8 +257,7 @@ triggered P l before started armed taken = go (eqb (trigger_field l.registers.co
 
 -- the store of a trigger takes no time
 before_tick : (j : ℕ) (l : Logbook) → (stores_before j l).tick ≡ l.tick
-before_tick zero l = refl
-before_tick (suc k) l = refl
+before_tick j l = grind arith
 
 trigger_tick : (l : Logbook) → (trigger_comes l).tick ≡ l.tick
 trigger_tick l =
@@ -324,8 +267,8 @@ trigger_tick l =
 trigger_made : (l : Logbook) → is_trigger_only l.registers ≡ false → stores_among (trigger_comes l).events ≡ stores_among l.events
 trigger_made l other =
     triggered (λ after. stores_among after.events ≡ stores_among l.events) l refl (λ e o. (start_still l).made)
-    (λ e o. never (is_trigger_only l.registers) o other)
-    (λ T triggers e o f t. never (is_trigger_only l.registers) o other)
+    (λ e o. cc)
+    (λ T triggers e o f t. cc)
 
 -- ---- the running cycle
 
@@ -336,17 +279,12 @@ triggers_at_first l call = cond (may_store l.registers call) (l.tick ∷ []) []
 -- what holds of a fresh cycle holds of the cycle after a start
 pub start_cycle : (P : Running → Type 0) (l : Logbook) → P (since l.tick []) → P (starts l).cycle
 unfolding starts
-start_cycle P l h = go (is_burst l.registers) (with_happened l l.tick l.taken (since l.tick []) (cycle_start ∷ l.events)) h
-  where
-    go : (burst : Bool) (fresh : Logbook) → P fresh.cycle → P (cond burst (begins 0 fresh) fresh).cycle
-    go true fresh h = h
-    go false fresh h = h
+start_cycle P l h = grind arith
 
 -- what holds of no cycle and of the cycle that runs holds of the cycle after any ticks
 module _ (P : Running → Type 0) (stopped : P idle) where
   one_of : (ends : Bool) (cycle : Running) → P cycle → P (cond ends idle cycle)
-  one_of true cycle h = stopped
-  one_of false cycle h = h
+  one_of ends cycle h = grind arith
 
   pub ticks_cycle : (n : ℕ) (l : Logbook) → P l.cycle → P (ticks_pass n l).cycle
   unfolding ticks_pass
@@ -381,10 +319,9 @@ module _ (P : Running → Type 0) (stopped : P idle) where
           → is_idle l.cycle ≡ true
       was_idle true e start = e
       was_idle false e start =
-          never _ start
+          cc
           (running_unstarted l.registers l.gains width offset value
           (subst (λ (t : Bool). first_no (call_questions l.registers l.gains t (write width offset value)) ≡ 0) e met))
-  call_cycle l (input channel microvolts) met h fresh more = h
   call_cycle l (advance ticks) met h fresh more = ticks_cycle ticks l h
   call_cycle l trigger met h fresh more =
       triggered (λ after. P after.cycle) l h
@@ -393,8 +330,7 @@ module _ (P : Running → Type 0) (stopped : P idle) where
       (λ T triggers e o f t.
       subst (λ (tick : ℕ). P (since T (tick ∷ triggers))) (sym (before_tick (length triggers) l)) (more T triggers e))
   call_cycle l reset met h fresh more = stopped
-  call_cycle l (look slot) met h fresh more = h
-  call_cycle l (clear slot) met h fresh more = h
+  call_cycle l _ met h fresh more = h
 
 -- a cycle that began at a tick with some triggers taken, and one that runs since T
 abbrev StartedAt : (tick : ℕ) (first : List ℕ) → Running → Type 0
@@ -410,7 +346,7 @@ started_there l call e =
     either (λ after. StartedAt l.tick (triggers_at_first l call) after.cycle) l call
     (λ met.
     call_cycle (StartedAt l.tick (triggers_at_first l call)) tt l call met now (λ free. (refl, refl))
-    (λ T triggers runs. let z : ◌≡◌ {A = ℕ} 0 1 = ap (λ (c : Running). cond (is_idle c) 0 1) (sym e ∙ runs) in absurd (omega arith)))
+    (λ T triggers runs. cc))
     now
   where
     now : StartedAt l.tick (triggers_at_first l call) l.cycle
@@ -421,7 +357,7 @@ kept_since l call T triggers e =
     either (λ after. RunsSince T after.cycle) l call
     (λ met.
     call_cycle (RunsSince T) tt l call met now
-    (λ free. never (is_idle l.cycle) free (ap is_idle e))
+    (λ free. cc)
     (λ later more runs. subst (RunsSince T) (sym e ∙ runs) refl))
     now
   where
@@ -430,22 +366,17 @@ kept_since l call T triggers e =
 
 -- ---- external trigger only
 
--- a trigger on an idle board in the other modes
-abbrev otherwise : Logbook → Logbook
-otherwise l = cond (is_timed l.registers && has_channels l.registers && has_interval l.registers) (starts l) l
-
 -- a trigger with field 01, by the cycle that runs
 with_field : (l : Logbook) (cycle : Running) → l.cycle ≡ cycle → trigger_field l.registers.control ≡ 1 → logged l trigger ≡ triggered_in cycle l
 unfolding logged call_questions first_no happens trigger_comes
-with_field l cycle e field =
-    ap (λ (t : Bool). cond t (triggered_in l.cycle l) l) (eq-eqb _ 1 field) ∙ ap (λ (c : Running). triggered_in c l) e
+with_field l cycle e field = grind arith
 
 module _ (l : Logbook) (only : is_trigger_only l.registers ≡ true) where
   armed_is : (T : ℕ) (triggers : List ℕ) (on-time : Bool) → is_taken l.tick triggers ≡ on-time → triggered_in (since T triggers) l ≡ cond on-time (takes T triggers l) l
-  armed_is T triggers on-time e = ap₂ (λ (t u : Bool). cond (t && u) (takes T triggers l) l) only e
+  armed_is T triggers on-time e = grind arith
 
   unarmed_is : (nine : Bool) → has_channels l.registers ≡ nine → triggered_in idle l ≡ cond nine (arms_by_trigger l) l
-  unarmed_is nine e = ap₂ (λ (t u : Bool). cond t (cond u (arms_by_trigger l) l) (otherwise l)) only e
+  unarmed_is nine e = grind arith
 
   ignored_is :
       ((T : ℕ) → l.cycle ≡ since T [] → trigger_field l.registers.control ≡ 1 → ⊥)
@@ -484,7 +415,7 @@ unfolding writes
 write_code register word l = go (is_start register word) _ refl
   where
     go : (start : Bool) (written : Logbook) → written.taken ≡ l.taken → Kept l (cond start (starts written) written)
-    go true written same e = never (is_idle (starts written).cycle) (ap is_idle e) (start_runs written)
+    go true written same e = cc (start_runs written)
     go false written same e = same
 
 code_kept_lem : (l : Logbook) (call : Call) → is_timeless call ≡ true → Kept l (happens l call)
@@ -492,16 +423,14 @@ unfolding happens
 code_kept_lem l (read width offset) h e = refl
 code_kept_lem l (write width offset value) h e =
     write_code (class_of offset) (resulting_word l.registers l.gains width offset value) l e
-code_kept_lem l (input channel microvolts) h e = refl
-code_kept_lem l (advance ticks) h e = never false h refl
+code_kept_lem l (advance ticks) h e = cc
 code_kept_lem l trigger h e =
-    triggered (Kept l) l (λ f. refl) (λ i o f. never (is_idle (starts l).cycle) (ap is_idle f) (start_runs l))
-    (λ i o f. never false (ap is_idle f) refl)
-    (λ T triggers i o g t f. never false (ap is_idle f) refl)
+    triggered (Kept l) l (λ f. refl) (λ i o f. cc (start_runs l))
+    (λ i o f. cc)
+    (λ T triggers i o g t f. cc)
     e
-code_kept_lem l reset h e = never false h refl
-code_kept_lem l (look slot) h e = refl
-code_kept_lem l (clear slot) h e = refl
+code_kept_lem l reset h e = cc
+code_kept_lem l _ h e = refl
 
 -- ---- the clauses
 
@@ -511,12 +440,9 @@ other_made l (read width offset) other =
     read_either (λ (after : List Event). stores_among after ≡ stores_among l.events) (class_of offset) l.events refl (λ slot. refl)
 other_made l (write width offset value) other =
     (write_still (class_of offset) (resulting_word l.registers l.gains width offset value) l).made
-other_made l (input channel microvolts) other = refl
-other_made l (advance ticks) other = never true refl other
+other_made l (advance ticks) other = cc
 other_made l trigger other = trigger_made l other
-other_made l reset other = refl
-other_made l (look slot) other = refl
-other_made l (clear slot) other = refl
+other_made l _ other = refl
 
 pub scheduled :
     (l : Logbook) → ((T : ℕ) (triggers : List ℕ) → l.cycle ≡ since T triggers → Startable l.registers) → Scheduled l
@@ -543,12 +469,10 @@ unfolding happens
 timeless_tick l (read width offset) h = refl
 timeless_tick l (write width offset value) h =
     (write_still (class_of offset) (resulting_word l.registers l.gains width offset value) l).tick
-timeless_tick l (input channel microvolts) h = refl
-timeless_tick l (advance ticks) h = never false h refl
+timeless_tick l (advance ticks) h = cc
 timeless_tick l trigger h = trigger_tick l
-timeless_tick l reset h = never false h refl
-timeless_tick l (look slot) h = refl
-timeless_tick l (clear slot) h = refl
+timeless_tick l reset h = cc
+timeless_tick l _ h = refl
 
 ticks_passed : (n : ℕ) (l : Logbook) → (ticks_pass n l).tick ≡ l.tick + n
 unfolding ticks_pass

@@ -1,16 +1,14 @@
 -- A cycle starts: the board's fresh cycle is the logbook's, in every mode.
-use mathlib.Core.Bool.{Bool, true, false, not, cond, ◌&&◌, ◌||◌}
+use mathlib.Core.Bool.{true, false}
 use mathlib.Core.List.{List, [], ◌∷◌}
 use mathlib.Core.Logic.{◌⊎◌, inl, inr}
 use mathlib.Core.Path.{◌≡◌, refl, sym, ap, ◌∙◌}
-use Prim.Native.Nat.{ℕ, zero, suc, ◌+◌, ◌*◌, ◌/◌, ◌%◌, ◌≤◌}
-use native.Mathlib.Nat.{add-zero, one-mul, zero-mod, zero-div, zero-mul}
+use Prim.Native.Nat.{ℕ, zero, suc, ◌+◌, ◌%◌, ◌≤◌}
+use native.Mathlib.Nat.{add-zero, zero-mod, zero-div}
 use native.Mathlib.Omega.{arith}
-use lib.Dec.{eqb, ltb, leb}
 use lib.ListN.{replicate}
-use borrow.Author.Tests.{leb-true, lt-ltb}
-use Rattle.pmc330_model.specs.Map.{scan_field, is_timer_enabled}
-use Rattle.pmc330_model.specs.Schedule.{pass_length, interval, is_differential, is_uniform, is_burst, is_single, is_timed, is_trigger_only, in_odd_pass, burst_delay, begins_at, is_scheduled}
+use Rattle.pmc330_model.specs.Map.{scan_field}
+use Rattle.pmc330_model.specs.Schedule.{pass_length, interval, is_uniform, is_burst, is_timed, is_trigger_only, in_odd_pass, begins_at, is_scheduled}
 use Rattle.pmc330_model.specs.Board.{begun, fresh_cycle, restarted, started}
 use Rattle.pmc330_model.specs.Logbook.{Event, cycle_start, Running, since, starts}
 use Rattle.pmc330_model.specs.Questions.{has_channels, has_interval}
@@ -18,69 +16,33 @@ use Rattle.pmc330_model.specs.declared.Registers.{Registers}
 use Rattle.pmc330_model.specs.declared.Board.{Board}
 use Rattle.pmc330_model.proofs.Agreement.{book_of, Memory, Limits, Startable, Timed, Armed, Agrees, Related}
 use Rattle.pmc330_model.proofs.Begins.{begins_is, begun_ends, begun_lead, begun_index, begun_odd, begun_slot, begun_held}
-use Rattle.pmc330_model.proofs.Cases.{and_left, and_right, implied}
 use Rattle.pmc330_model.proofs.Memory.{memory_start}
 use Rattle.pmc330_model.proofs.TickBegins.{next_after}
 
 -- what questions 9 and 10 say
 module _ (r : Registers) (limits : Limits r) (nine : has_channels r ≡ true) (ten : has_interval r ≡ true) where
-  or_left : (a b : Bool) → a ≡ true → (a || b) ≡ true
-  or_left a b e = rw e
-
   pub startable_of : Startable r
-  startable_of =
-      record {
-        ordered = leb-true r.start r.end (and_left (leb r.start r.end) (not (is_differential r) || leb r.end 15) nine);
-        most = limits.end;
-        half =
-            λ differential.
-            leb-true r.end 15
-            (implied (is_differential r) (leb r.end 15) (and_right (leb r.start r.end) (not (is_differential r) || leb r.end 15) nine) differential);
-        slow =
-            λ uniform.
-            leb-true 64 (interval r)
-            (implied (is_uniform r || eqb (scan_field r.control) 3 && is_timer_enabled r.control) (leb 64 (interval r))
-            (and_right (not (is_uniform r) || is_timer_enabled r.control)
-            (not (is_uniform r || eqb (scan_field r.control) 3 && is_timer_enabled r.control) || leb 64 (interval r))
-            ten)
-            (or_left (is_uniform r) (eqb (scan_field r.control) 3 && is_timer_enabled r.control) uniform));
-      }
+  startable_of = grind arith
 
 -- when the first conversion begins
 module _ (r : Registers) where
   first_uniform : is_uniform r ≡ true → begins_at r 0 ≡ interval r
   unfolding begins_at
-  first_uniform e =
-      ap (λ (u : Bool). cond u ((0 + 1) * interval r) (0 / pass_length r * (120 * pass_length r + burst_delay r) + 120 * (0 % pass_length r))) e
-      ∙ one-mul (interval r)
+  first_uniform e = grind arith
 
   first_burst : is_uniform r ≡ false → begins_at r 0 ≡ 0
   unfolding begins_at
-  first_burst e =
-      ap (λ (u : Bool). cond u ((0 + 1) * interval r) (0 / pass_length r * (120 * pass_length r + burst_delay r) + 120 * (0 % pass_length r))) e
-      ∙ rw (zero-div (pass_length r), zero-mod (pass_length r), zero-mul (120 * pass_length r + burst_delay r))
+  first_burst e = grind arith
 
   first_scheduled : is_timed r ≡ true → is_scheduled r 0 ≡ true
-  first_scheduled timed = rw timed (go (is_single r))
-    where
-      go : (s : Bool) → (not s || ltb 0 (pass_length r)) ≡ true
-      go true = lt-ltb 0 (pass_length r) (omega arith)
-      go false = refl
+  first_scheduled timed = grind arith
 
   first_even : false ≡ in_odd_pass r 0
   first_even = rw (zero-div (pass_length r))
 
 -- a fresh cycle in external trigger only is armed, with no trigger taken yet
 pub fresh_armed : (r : Registers) (tick : ℕ) → is_timed r ≡ false → is_trigger_only r ≡ true → Armed r tick [] (fresh_cycle r)
-fresh_armed r tick timed only =
-    record {
-      timed = timed;
-      trigger_only = only;
-      running = refl;
-      index = sym (zero-mod (pass_length r));
-      odd = first_even r;
-      flight = inr (record { are = refl; waiting = refl; lag = refl });
-    }
+fresh_armed r tick timed only = grind arith
 
 module _ (b : Board) (tick : ℕ) (cycle : Running) (events : List Event) (agrees : Agrees b tick cycle events) (startable : Startable b.registers) where
   -- the board with the bits cleared and the cycle fresh
@@ -105,8 +67,7 @@ module _ (b : Board) (tick : ℕ) (cycle : Running) (events : List Event) (agree
   -- no beginning in the call that starts the cycle
   no_burst : is_burst b.registers ≡ false → Agrees fresh tick (since tick []) (cycle_start ∷ events) → Started
   unfolding Started starts started
-  no_burst e done =
-      rw e (record { tick = tick; cycle = since tick []; events = cycle_start ∷ events; same = refl; agrees = done })
+  no_burst e done = grind arith
 
   uniform : is_uniform b.registers ≡ true → is_burst b.registers ≡ false → Started
   uniform e other =

@@ -1,24 +1,22 @@
 -- The sentences of the data sheet, proved. Their statements are in specs/Sentences.antt.
-use mathlib.Core.Bool.{Bool, true, cond, false≢true}
+use mathlib.Core.Bool.{Bool, true, cond}
 use mathlib.Core.List.{List, [], ◌∷◌}
-use mathlib.Core.Logic.{⊎_elim}
 use mathlib.Core.Path.{◌≡◌, refl, sym, ap, ap₂, subst, ◌∙◌}
-use Prim.Native.Nat.{ℕ, zero, suc, ◌+◌, ◌≤◌, ◌<◌}
+use Prim.Native.Nat.{ℕ, zero, suc, ◌+◌, ◌≤◌}
 use native.Mathlib.Nat.{zero-add, add_assoc, suc-add}
 use native.Mathlib.Omega.{arith}
-use borrow.Author.Tests.{ne_eqb, le-leb, lt-leb}
+use borrow.Author.Tests.{ne_eqb, le-leb}
 use Rattle.analog.specs.Answers.{Question, first_no, asked, answered, value_of, is_accepted}
 use Rattle.analog.specs.Sums.{sum_of}
 use Rattle.analog.proofs.AnswerLaws.{some_first, answered_by}
 use Rattle.pmc330_model.specs.Calls.{Call}
 use Rattle.pmc330_model.specs.Board.{new_board, ticked, advanced, is_store_due, stores_in, questions_of, after_call, value_of_call, board_call, advance_call, board_from, answers_from, board_after}
-use Rattle.pmc330_model.specs.Logbook.{Running, since, Logbook, was_reset, idle, new_logbook, logged, logged_answer, logged_from, logged_answers_from, logbook_of}
+use Rattle.pmc330_model.specs.Logbook.{since, Logbook, was_reset, idle, new_logbook, logged, logged_answer, logged_from, logged_answers_from, logbook_of}
 use Rattle.pmc330_model.specs.Questions.{call_questions}
 use Rattle.pmc330_model.specs.Sentences.{Sentence1, Sentence3, EveryCall1, AfterList1, EveryList1, EveryNew1, EveryAnswer, EveryList3, EverySchedule, EveryTick, EveryPair, EveryAdvances, board_after_advances, value_of_advances}
 use Rattle.pmc330_model.specs.declared.Board.{Board}
-use Rattle.pmc330_model.proofs.Agreement.{Startable, CycleAgrees, Related}
+use Rattle.pmc330_model.proofs.Agreement.{Startable, Related}
 use Rattle.pmc330_model.proofs.CallsAgree.{questions_same, answer_same, call_agrees}
-use Rattle.pmc330_model.proofs.Cases.{lt_or_le}
 use Rattle.pmc330_model.proofs.Memory.{memory_reset}
 use Rattle.pmc330_model.proofs.Reading.{sentence3_of}
 use Rattle.pmc330_model.proofs.Scheduled.{scheduled, ticks_counted_lem}
@@ -38,13 +36,7 @@ sentence1 b call =
 
 pub new_boards : EveryNew1
 unfolding asked answered first_no
-new_boards range =
-    record {
-      accepted = λ h. rw (le-leb range 3 h);
-      made = λ h. ap (λ (t : Bool). new_board (cond t range 0)) (le-leb range 3 h);
-      refused = λ h. rw (lt-leb range 3 h);
-      board = λ h. ap (λ (t : Bool). new_board (cond t range 0)) (lt-leb range 3 h);
-    }
+new_boards range = grind arith
 
 -- ---- sentence 3, and sentence 1 after a list
 
@@ -96,10 +88,7 @@ sentence1_after range valid calls next =
 -- a running cycle met questions 9 and 10
 pub running_startable :
     (l : Logbook) (b : Board) → Related l b → (T : ℕ) (triggers : List ℕ) → l.cycle ≡ since T triggers → Startable l.registers
-running_startable l b h T triggers running =
-    let cycle : h.cycle ≡ since T triggers = sym (ap (λ (book : Logbook). book.cycle) h.same) ∙ running in
-    subst (λ (book : Logbook). Startable book.registers) (sym h.same)
-    (subst (λ (c : Running). CycleAgrees b.registers h.tick c b.cycle) cycle h.agrees.running).startable
+running_startable l b h T triggers running = grind arith
 
 pub schedule : EverySchedule
 schedule range valid calls =
@@ -136,11 +125,7 @@ stores_add (suc n) k b =
 -- an advance is accepted exactly up to the most ticks
 accepted_most : (b : Board) (n : ℕ) → is_accepted (advance_call b n).answer ≡ true → n ≤ 16_777_216
 unfolding board_call call_questions first_no asked answered
-accepted_most b n e =
-    ⊎_elim
-    (λ (more : 16_777_216 < n). absurd (false≢true (rw (lt-leb n 16_777_216 more) at e)))
-    (λ (most : n ≤ 16_777_216). most)
-    (lt_or_le 16_777_216 n)
+accepted_most b n e = grind arith
 
 module _ (b : Board) (n : ℕ) (most : n ≤ 16_777_216) where
   pub accepted_board : (advance_call b n).board ≡ advanced n b

@@ -1,13 +1,14 @@
 -- The second half of a tick in a timed cycle: the beginning that is due, if any.
-use mathlib.Core.Bool.{Bool, true, false, not, cond, ◌&&◌}
+use mathlib.Core.Bool.{Bool, true, false, not, ◌&&◌}
 use mathlib.Core.List.{List}
 use mathlib.Core.Logic.{◌⊎◌, inl, inr, ⊎_elim}
-use mathlib.Core.Path.{◌≡◌, refl, sym, ap, ap₂, subst, ◌∙◌}
+use mathlib.Core.Path.{◌≡◌, refl, sym, ap, subst, ◌∙◌}
 use Prim.Native.Nat.{ℕ, suc, ◌+◌, ◌-◌, ◌%◌, ◌≤◌, ◌<◌}
 use native.Mathlib.Nat.{add-zero, eq-or-lt_of_le}
 use native.Mathlib.Omega.{arith}
 use lib.Dec.{eqb}
 use borrow.Author.Tests.{eq-eqb, ne_eqb}
+use Rattle.std.proofs.lemmas.Bool.{cases_lt, cases_eq}
 use Rattle.pmc330_model.specs.Schedule.{pass_length, is_single, is_timed, in_odd_pass, ends_pass, begins_at, is_scheduled}
 use Rattle.pmc330_model.specs.Board.{begun, begun_if_due, lead_after}
 use Rattle.pmc330_model.specs.Logbook.{Event, since, if_due, begins, begins_due}
@@ -16,7 +17,6 @@ use Rattle.pmc330_model.specs.declared.Cycle.{Cycle}
 use Rattle.pmc330_model.specs.declared.Board.{Board}
 use Rattle.pmc330_model.proofs.Agreement.{book_of, Memory, Limits, Startable, InFlight, AllStored, ToCome, NoMore, Agrees}
 use Rattle.pmc330_model.proofs.Begins.{begins_is, begun_ends, begun_lead, begun_index, begun_odd, begun_slot, begun_held}
-use Rattle.pmc330_model.proofs.Cases.{same_or_not, lt_or_le, never}
 use Rattle.pmc330_model.proofs.Due.{due_found, due_none, unscheduled_later, scheduled_next}
 use Rattle.pmc330_model.proofs.Schedule.{step, step_after, step_long, before}
 
@@ -146,7 +146,7 @@ module _ (s : Board) (startable : Startable s.registers) (T tick k : ℕ) (trigg
   waits next more =
       let two : 2 ≤ old.lead = at_least next.some more in
       nothing_begins
-      (λ i scheduled e. other_begins i e (lt_or_le i k) (omega (arith, next.due)))
+      (λ i scheduled e. other_begins i e (cases_lt i k) (omega (arith, next.due)))
       (inl
       (record {
         scheduled = next.scheduled;
@@ -160,20 +160,19 @@ module _ (s : Board) (startable : Startable s.registers) (T tick k : ℕ) (trigg
   no_more : NoMore s.registers k old → Begun s
   no_more next =
       nothing_begins
-      (λ i scheduled e. over i scheduled e (lt_or_le i k))
+      (λ i scheduled e. over i scheduled e (cases_lt i k))
       (inr (record { unscheduled = next.unscheduled; none = omega (arith, between.lead, next.none) }))
     where
       over : (i : ℕ) → is_scheduled s.registers i ≡ true → T + begins_at s.registers i + 0 ≡ suc tick → (i < k) ⊎ (k ≤ i) → ⊥
       over i scheduled e (inl early) = omega (arith, between.began i early)
       over i scheduled e (inr later) =
-          never (is_scheduled s.registers i) scheduled
-          (unscheduled_later s.registers between.timed k i next.unscheduled later)
+          cc (unscheduled_later s.registers between.timed k i next.unscheduled later)
 
   begun_when : (due : Bool) → due ≡ true → begun_if_due due s ≡ begun s
-  begun_when due e = ap₂ (λ (d r : Bool). cond (d && r) (begun s) s) e between.running
+  begun_when due e = grind arith
 
   kept_when : (due : Bool) → due ≡ false → begun_if_due due s ≡ s
-  kept_when due e = ap (λ (d : Bool). cond (d && s.cycle.running) (begun s) s) e
+  kept_when due e = grind arith
 
   -- the tick's second half
   pub begin_half : Begun (begun_if_due (eqb old.lead 1) s)
@@ -185,7 +184,7 @@ module _ (s : Board) (startable : Startable s.registers) (T tick k : ℕ) (trigg
       subst Begun (sym (begun_when (eqb old.lead 1) (eq-eqb old.lead 1 one))) (begins_now next one))
       (λ (more : old.lead ≡ 1 → ⊥).
       subst Begun (sym (kept_when (eqb old.lead 1) (ne_eqb old.lead 1 more))) (waits next more))
-      (same_or_not old.lead 1))
+      (cases_eq old.lead 1))
       (λ (next : NoMore s.registers k old).
       let none : old.lead ≡ 1 → ⊥ = λ e. omega (arith, next.none) in
       subst Begun (sym (kept_when (eqb old.lead 1) (ne_eqb old.lead 1 none))) (no_more next))

@@ -2,20 +2,20 @@
 use mathlib.Core.Bool.{Bool, true, false, cond, ◌&&◌}
 use mathlib.Core.List.{List, ◌∷◌}
 use mathlib.Core.Logic.{◌⊎◌, inl, inr, ⊎_elim}
-use mathlib.Core.Path.{◌≡◌, refl, sym, ap, ap₂, subst, ◌∙◌}
+use mathlib.Core.Path.{◌≡◌, refl, sym, ap, subst, ◌∙◌}
 use Prim.Native.Nat.{ℕ, zero, suc, ◌+◌, ◌-◌, ◌≤◌, ◌<◌}
 use native.Mathlib.Nat.{eq-or-lt_of_le, zero-add}
 use native.Mathlib.Omega.{arith}
 use lib.Dec.{eqb}
 use borrow.Author.Tests.{eq-eqb, ne_eqb}
+use Rattle.std.proofs.lemmas.Bool.{cases_lt, cases_eq, cases_Bool, and_parts, both_ways}
 use Rattle.pmc330_model.specs.Schedule.{is_single, is_timed, ends_pass, begins_at, is_scheduled, none}
-use Rattle.pmc330_model.specs.Board.{idle_cycle, with_cycle, stored, begun, stored_in_time, elapsed, is_store_due, is_beginning_due, stored_if_due, begun_if_due, ticked, advanced, stores_in}
+use Rattle.pmc330_model.specs.Board.{idle_cycle, with_cycle, stored, stored_in_time, elapsed, is_store_due, stored_if_due, begun_if_due, ticked, advanced, stores_in}
 use Rattle.pmc330_model.specs.Logbook.{Event, Running, idle, since, due_after, if_due, stores_in_time, stores_due, begins, begins_due, tick_passes, ticks_pass, stores_made}
 use Rattle.pmc330_model.specs.declared.Registers.{Registers}
 use Rattle.pmc330_model.specs.declared.Cycle.{Cycle}
 use Rattle.pmc330_model.specs.declared.Board.{Board}
 use Rattle.pmc330_model.proofs.Agreement.{book_of, Memory, Limits, Startable, InFlight, AllStored, ToCome, NoMore, Timed, Waiting, Untriggered, Armed, Agrees, Moved}
-use Rattle.pmc330_model.proofs.Cases.{same_or_not, lt_or_le, true_or_false, never, and_left}
 use Rattle.pmc330_model.proofs.Due.{due_found, due_none, unscheduled_later}
 use Rattle.pmc330_model.proofs.Schedule.{before}
 use Rattle.pmc330_model.proofs.Stores.{store_of, stored_memory}
@@ -49,14 +49,9 @@ module _ (b : Board) (tick T : ℕ) (triggers : List ℕ) (events : List Event) 
   store_due_is : is_store_due b ≡ eqb b.cycle.lag 1
   store_due_is = rw (timed.running, timed.timed)
 
-  beginning_due_is : is_beginning_due b ≡ eqb b.cycle.lead 1
-  beginning_due_is = rw (timed.running, timed.timed)
-
   ticked_is : ticked b ≡ begun_if_due (eqb b.cycle.lead 1) (stored_if_due (eqb b.cycle.lag 1) later)
   unfolding ticked
-  ticked_is =
-      ap (λ (running : Bool). cond running (begun_if_due (is_beginning_due b) (stored_if_due (is_store_due b) later)) b) timed.running
-      ∙ ap₂ (λ (beginning due : Bool). begun_if_due beginning (stored_if_due due later)) beginning_due_is store_due_is
+  ticked_is = grind arith
 
   -- the claim of a tick, of the board after it and its number of stores
   abbrev Done : Board → (made : ℕ) → Type 0
@@ -112,13 +107,12 @@ module _ (b : Board) (tick T : ℕ) (triggers : List ℕ) (events : List Event) 
           (λ (more : k < i). omega (arith, next.due, before b.registers startable.slow k i more))
           (eq-or-lt_of_le h)
       go (inr next) =
-          never (is_scheduled b.registers i) scheduled
-          (unscheduled_later b.registers timed.timed k i next.unscheduled h)
+          cc (unscheduled_later b.registers timed.timed k i next.unscheduled h)
 
   all_stored : AllStored b.registers T tick k b.cycle → Done (begun_if_due (eqb b.cycle.lead 1) later) 0
   all_stored all =
       no_store
-      (λ i scheduled e. go i scheduled e (lt_or_le i k))
+      (λ i scheduled e. go i scheduled e (cases_lt i k))
       (inr (record { none = omega (arith, all.none); past = λ i h. omega (arith, all.past i h) }))
     where
       go : (i : ℕ) → is_scheduled b.registers i ≡ true → T + begins_at b.registers i + 64 ≡ suc tick → (i < k) ⊎ (k ≤ i) → ⊥
@@ -131,15 +125,12 @@ module _ (b : Board) (tick T : ℕ) (triggers : List ℕ) (events : List Event) 
     earlier_stored i h = omega (arith, flight.due, flight.most, before b.registers startable.slow i flight.j h)
 
     before_last : (i : ℕ) → i < k → (i ≡ flight.j) ⊎ (i < flight.j)
-    before_last i h = eq-or-lt_of_le (at_most flight.last)
-      where
-        at_most : {j : ℕ} → k ≡ suc j → i ≤ j
-        at_most e = omega arith
+    before_last i h = grind arith
 
     in_progress : (b.cycle.lag ≡ 1 → ⊥) → Done (begun_if_due (eqb b.cycle.lead 1) later) 0
     in_progress more =
         no_store
-        (λ i scheduled e. go i scheduled e (lt_or_le i k))
+        (λ i scheduled e. go i scheduled e (cases_lt i k))
         (inl
         (record {
           j = flight.j;
@@ -206,19 +197,13 @@ module _ (b : Board) (tick T : ℕ) (triggers : List ℕ) (events : List Event) 
           }
 
       cycle_continues : (is_single b.registers && ends_pass b.registers flight.j) ≡ false → (stored_in_time later).cycle ≡ continued
-      cycle_continues e =
-          ap (λ (over : Bool). cond over idle_cycle continued) (ap (λ (t : Bool). is_single b.registers && t) flight.ends ∙ e)
+      cycle_continues e = grind arith
 
       stored_now : stored_if_due (eqb b.cycle.lag 1) later ≡ stored_in_time later
       stored_now = ap (λ (due : Bool). stored_if_due due later) (eq-eqb b.cycle.lag 1 one)
 
       no_beginning : (due : Bool) → (stored_in_time later).cycle ≡ idle_cycle → begun_if_due due (stored_in_time later) ≡ stored_in_time later
-      no_beginning due e =
-          ap (λ (c : Cycle). cond (due && c.running) (begun (stored_in_time later)) (stored_in_time later)) e ∙ neither due
-        where
-          neither : (due : Bool) → cond (due && false) (begun (stored_in_time later)) (stored_in_time later) ≡ stored_in_time later
-          neither true = refl
-          neither false = refl
+      no_beginning due e = grind arith
 
       ends_cycle_lem : (is_single b.registers && ends_pass b.registers flight.j) ≡ true → Done (begun_if_due (eqb b.cycle.lead 1) (stored_in_time later)) 1
       unfolding stored tick_passes due_after
@@ -278,11 +263,11 @@ module _ (b : Board) (tick T : ℕ) (triggers : List ℕ) (events : List Event) 
       is_stored : Done (begun_if_due (eqb b.cycle.lead 1) (stored_if_due (eqb b.cycle.lag 1) later)) 1
       is_stored =
           subst (λ (next : Board). Done (begun_if_due (eqb b.cycle.lead 1) next) 1) (sym stored_now)
-          (⊎_elim ends_cycle_lem goes_on (true_or_false (is_single b.registers && ends_pass b.registers flight.j)))
+          (⊎_elim ends_cycle_lem goes_on (cases_Bool (is_single b.registers && ends_pass b.registers flight.j)))
 
   -- where nothing is stored, the store half leaves the board
   not_stored : (b.cycle.lag ≡ 1 → ⊥) → stored_if_due (eqb b.cycle.lag 1) later ≡ later
-  not_stored other = ap (λ (due : Bool). stored_if_due due later) (ne_eqb b.cycle.lag 1 other)
+  not_stored other = grind arith
 
   kept : (b.cycle.lag ≡ 1 → ⊥) → Done (begun_if_due (eqb b.cycle.lead 1) later) 0 → Done (ticked b) (cond (is_store_due b) 1 0)
   kept other done =
@@ -296,7 +281,7 @@ module _ (b : Board) (tick T : ℕ) (triggers : List ℕ) (events : List Event) 
           ⊎_elim
           (λ (one : b.cycle.lag ≡ 1). rw (ticked_is, store_due_is) (subst (λ (due : Bool). Done (begun_if_due (eqb b.cycle.lead 1) (stored_if_due (eqb b.cycle.lag 1) later)) (cond due 1 0)) (sym (eq-eqb b.cycle.lag 1 one)) (is_stored flight one)))
           (λ (other : b.cycle.lag ≡ 1 → ⊥). kept other (in_progress flight other))
-          (same_or_not b.cycle.lag 1)
+          (cases_eq b.cycle.lag 1)
       go (inr all) = kept (λ e. omega (arith, all.none)) (all_stored all)
 
 -- an armed cycle: time passes, and nothing is due
@@ -305,7 +290,7 @@ module _ (b : Board) (tick T : ℕ) (triggers : List ℕ) (events : List Event) 
   never_due : (delay : ℕ) → due_after delay b.registers (suc tick) (since T triggers) ≡ none
   never_due delay =
       due_none b.registers startable T delay (suc tick) triggers
-      (λ i scheduled e. never (is_timed b.registers) (and_left _ _ scheduled) armed.timed)
+      (λ i scheduled e. absurd (both_ways _ armed.timed (and_parts _ _ scheduled).0))
 
   abbrev passed : Board
   passed = with_cycle b (elapsed b.cycle)
@@ -318,22 +303,7 @@ module _ (b : Board) (tick T : ℕ) (triggers : List ℕ) (events : List Event) 
   passes = rw (armed.running, armed.timed)
 
   waits_on : Waiting b.registers tick triggers b.cycle ⊎ Untriggered triggers b.cycle → Waiting b.registers (suc tick) triggers (elapsed b.cycle) ⊎ Untriggered triggers (elapsed b.cycle)
-  waits_on (inl w) =
-      inl
-      (record {
-        last = w.last;
-        earlier = w.earlier;
-        are = w.are;
-        waiting = w.waiting;
-        lag = one_less (w.last + 64) w.lag;
-        taken = omega (arith, w.taken);
-        slot = w.slot;
-        ends = w.ends;
-      })
-    where
-      one_less : {n : ℕ} (x : ℕ) → n ≡ x - tick → n - 1 ≡ x - suc tick
-      one_less x e = omega arith
-  waits_on (inr u) = inr (record { are = u.are; waiting = u.waiting; lag = omega (arith, u.lag) })
+  waits_on h = grind arith
 
   pub tick_armed : Moved (tick_passes (book_of b tick (since T triggers) events)) (ticked b) (cond (is_store_due b) 1 0) events
   unfolding tick_passes
@@ -373,8 +343,7 @@ module _ (b : Board) (tick T : ℕ) (triggers : List ℕ) (events : List Event) 
 module _ (b : Board) (stopped : b.cycle ≡ idle_cycle) where
   idle_ticked : ticked b ≡ b
   unfolding ticked
-  idle_ticked =
-      ap (λ (c : Cycle). cond c.running (begun_if_due (is_beginning_due b) (stored_if_due (is_store_due b) (with_cycle b (elapsed b.cycle)))) b) stopped
+  idle_ticked = grind arith
 
   idle_stores : is_store_due b ≡ false
   idle_stores = ap (λ (c : Cycle). c.running && is_timed b.registers && eqb c.lag 1) stopped

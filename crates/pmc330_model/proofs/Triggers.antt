@@ -3,11 +3,12 @@ use mathlib.Core.Bool.{Bool, true, false, cond, ◌&&◌}
 use mathlib.Core.List.{List, [], ◌∷◌}
 use mathlib.Core.Logic.{◌⊎◌, inl, inr, ⊎_elim}
 use mathlib.Core.Path.{◌≡◌, refl, sym, ap, subst}
-use Prim.Native.Nat.{ℕ, ◌-◌, ◌≤◌, ◌<◌}
+use Prim.Native.Nat.{ℕ}
 use native.Mathlib.Omega.{arith}
 use lib.Dec.{eqb}
 use lib.ListN.{length}
-use borrow.Author.Tests.{eq-eqb, ne_eqb, eqb-true, le-leb, lt-leb}
+use borrow.Author.Tests.{eqb-true}
+use Rattle.std.proofs.lemmas.Bool.{and_parts, both_ways}
 use Rattle.pmc330_model.specs.Map.{trigger_field, scan_field}
 use Rattle.pmc330_model.specs.Schedule.{is_timed, is_trigger_only}
 use Rattle.pmc330_model.specs.Board.{with_cycle, stored, begun, fresh_cycle, trigger_taken, armed_by_trigger, triggered_idle, triggered}
@@ -18,15 +19,13 @@ use Rattle.pmc330_model.specs.declared.Cycle.{Cycle}
 use Rattle.pmc330_model.specs.declared.Board.{Board}
 use Rattle.pmc330_model.proofs.Agreement.{book_of, Memory, Limits, Startable, Timed, Waiting, Untriggered, Armed, Agrees, Related}
 use Rattle.pmc330_model.proofs.Begins.{begins_is, begun_ends, begun_index, begun_odd, begun_slot, begun_held}
-use Rattle.pmc330_model.proofs.Cases.{never, and_left, and_right, lt_or_le}
 use Rattle.pmc330_model.proofs.Starts.{startable_of, fresh_armed, started_agrees}
 use Rattle.pmc330_model.proofs.Related.{unchanged, both}
 use Rattle.pmc330_model.proofs.Stores.{slot_memory, store_of, stored_memory}
 
 -- a mode in time is not external trigger only
 timed_not_only : (r : Registers) → is_timed r ≡ true → is_trigger_only r ≡ false
-timed_not_only r timed =
-    ne_eqb (scan_field r.control) 5 (λ five. never (is_timed r) timed (rw five))
+timed_not_only r timed = grind arith
 
 -- external trigger only is scan 101: no timed mode, and question 10 asks nothing of it
 only_untimed : (r : Registers) → is_trigger_only r ≡ true → is_timed r ≡ false
@@ -36,18 +35,11 @@ only_interval : (r : Registers) → is_trigger_only r ≡ true → has_interval 
 only_interval r only = rw (eqb-true (scan_field r.control) 5 only)
 
 timed_scans : (r : Registers) → is_timed r ≡ true → scan_field r.control ≡ 0 → ⊥
-timed_scans r timed none = never (is_timed r) timed (rw none)
+timed_scans r timed none = cc
 
 -- the countdown is over just when the trigger would be taken
 taken_same : (r : Registers) (tick : ℕ) (triggers : List ℕ) (c : Cycle) → Waiting r tick triggers c ⊎ Untriggered triggers c → eqb c.lag 0 ≡ is_taken tick triggers
-taken_same r tick triggers c (inr u) = rw (u.lag, u.are)
-taken_same r tick triggers c (inl w) =
-    ⊎_elim
-    (λ (soon : tick - w.last < 64).
-    rw (w.are, lt-leb 64 (tick - w.last) soon) (ne_eqb c.lag 0 (λ e. omega (arith, w.lag))))
-    (λ (late : 64 ≤ tick - w.last).
-    rw (w.are, le-leb 64 (tick - w.last) late) (eq-eqb c.lag 0 (omega (arith, w.lag))))
-    (lt_or_le (tick - w.last) 64)
+taken_same r tick triggers c h = grind arith
 
 -- a trigger takes its code, on a board that has stored what it had to
 module _ (s : Board) (tick T : ℕ) (triggers : List ℕ) (limits : Limits s.registers) (startable : Startable s.registers)
@@ -161,12 +153,12 @@ triggered_in_lem b tick idle events agrees =
     (λ modes.
     both (is_timed b.registers && has_channels b.registers && has_interval b.registers) _ refl
     (λ able.
-    let two = and_left (is_timed b.registers && has_channels b.registers) (has_interval b.registers) able in
-    let timed = and_left (is_timed b.registers) (has_channels b.registers) two in
+    let two = (and_parts _ _ able).0 in
+    let timed = (and_parts _ _ two).0 in
     started_agrees b tick idle events agrees
     (startable_of b.registers agrees.limits
-    (and_right (is_timed b.registers) (has_channels b.registers) two)
-    (and_right (is_timed b.registers && has_channels b.registers) (has_interval b.registers) able))
+    (and_parts _ _ two).1
+    (and_parts _ _ able).1)
     (timed_scans b.registers timed))
     (λ other. unchanged b tick idle events agrees)))
 triggered_in_lem b tick (since T triggers) events agrees = go agrees.running.mode
@@ -180,7 +172,7 @@ triggered_in_lem b tick (since T triggers) events agrees = go agrees.running.mod
         (sym timed.running)
         (both (is_trigger_only b.registers && eqb b.cycle.lag 0) (is_trigger_only b.registers && is_taken tick triggers)
         (rw (timed_not_only b.registers timed.timed))
-        (λ only. never (is_trigger_only b.registers) (and_left _ _ only) (timed_not_only b.registers timed.timed))
+        (λ only. absurd (both_ways _ (timed_not_only b.registers timed.timed) (and_parts _ _ only).0))
         (λ other. unchanged b tick (since T triggers) events agrees))
     go (inr armed) =
         subst

@@ -1,28 +1,28 @@
 -- Request A7, how long a channel can wait: a continuous scan that nothing ends makes every store of its schedule, at its tick.
-use mathlib.Core.Bool.{Bool, true, false, not, cond, ◌&&◌, ◌||◌, false≢true}
+use mathlib.Core.Bool.{Bool, true, false, cond, ◌&&◌, ◌||◌}
 use mathlib.Core.List.{List, [], ◌∷◌, ◌++◌}
 use mathlib.Core.Logic.{◌⊎◌, inl, inr, ⊎_elim}
 use mathlib.Core.Path.{◌≡◌, refl, sym, ap, subst, ◌∙◌}
 use Prim.Native.Nat.{ℕ, zero, suc, ◌+◌, ◌-◌, ◌*◌, ◌/◌, ◌%◌, ◌≤◌, ◌<◌}
 use native.Mathlib.Nat.{eq-or-lt_of_le, add-zero, one-mul, mul-pos, mod-lt, mod-eq_of_lt, div-add-mod'}
 use native.Mathlib.Omega.{arith}
-use lib.Dec.{eqb, ltb, leb}
-use borrow.Author.Tests.{eq-eqb, eqb-true, lt-ltb, le-leb, leb-true, not-true}
+use lib.Dec.{eqb}
+use borrow.Author.Tests.{eq-eqb, eqb-true, lt-ltb, le-leb, not-true}
+use Rattle.std.proofs.lemmas.Bool.{cases_Bool, and_parts, or_right}
 use Rattle.analog.specs.Answers.{first_no, all_met}
 use Rattle.analog.proofs.AnswerLaws.{some_first}
 use Rattle.pmc330_model.specs.Map.{class_of, scan_field, word_at}
 use Rattle.pmc330_model.specs.declared.Register.{Register}
-use Rattle.pmc330_model.specs.declared.Register.TheVariants.{Unmapped, Interrupt, Control, Prescaler, Timer, Channels, StartConvert, NewData, MissedData, Gain, Mailbox}
-use Rattle.pmc330_model.specs.Words.{with_word, bit_of, is_stop, is_start, joined, held_word, written_word}
-use Rattle.pmc330_model.specs.Schedule.{pass_length, is_differential, is_uniform, is_single, is_continuous, is_timed, is_trigger_only, is_burst, channel_of, in_odd_pass, slot_of, ends_pass, begins_at, pass_ticks, is_scheduled, Due, none, conversion, first_from}
+use Rattle.pmc330_model.specs.declared.Register.TheVariants.{Interrupt, Control, StartConvert}
+use Rattle.pmc330_model.specs.Words.{with_word, is_stop, is_start, joined, held_word, written_word}
+use Rattle.pmc330_model.specs.Schedule.{pass_length, is_differential, is_uniform, is_single, is_continuous, is_timed, is_trigger_only, is_burst, channel_of, slot_of, ends_pass, begins_at, pass_ticks, is_scheduled, Due, none, conversion, first_from}
 use Rattle.pmc330_model.specs.Calls.{Call, read, write, input, advance, trigger, reset, look, clear}
 use Rattle.pmc330_model.specs.Questions.{is_allowed, resulting_word, call_questions}
-use Rattle.pmc330_model.specs.Logbook.{Event, Store, Running, idle, since, release, cycle_start, was_read, store, store_at, Logbook, with_happened, begins, stores, due_after, if_due, tick_passes, ticks_pass, starts, trigger_comes, writes, happens, is_idle, logbook_questions, logged, logged_from, new_logbook}
+use Rattle.pmc330_model.specs.Logbook.{Event, Store, Running, idle, since, cycle_start, store, store_at, Logbook, stores, due_after, if_due, tick_passes, ticks_pass, starts, trigger_comes, writes, happens, is_idle, logbook_questions, logged, logged_from, new_logbook}
 use Rattle.pmc330_model.specs.Waiting.{stops_or_resets, runs_on, CycleList, at_start, at_end, registers_of, RunsContinuously, Span, covers, any_store, span_stores, Scanned, is_slot_of, ChannelWaits, EveryWait, slot_passes, EverySlotWait, EveryBurstWait, short_list, ShortMisses, NoShorterWait}
 use Rattle.pmc330_model.specs.Board.{board_after}
 use Rattle.pmc330_model.specs.declared.Registers.{Registers}
 use Rattle.pmc330_model.proofs.Agreement.{Startable}
-use Rattle.pmc330_model.proofs.Cases.{true_or_false, and_left, and_right, or_right, never}
 use Rattle.pmc330_model.proofs.Passes.{falls, later_begins, later_channel, later_slot, begins_within, stored_within, pass_some}
 use Rattle.pmc330_model.proofs.QuestionLaws.{running_allowed, running_unstarted}
 use Rattle.pmc330_model.proofs.Scheduled.{ends_cycle, next, tick_is, either, start_still, read_either, triggered, start_cycle, ticks_cycle, scheduled}
@@ -39,8 +39,6 @@ unfolding any_store
 any_weaker p q weaker [] e = e
 any_weaker p q weaker (Event.was_reset ∷ earlier) e = e
 any_weaker p q weaker (cycle_start ∷ earlier) e = e
-any_weaker p q weaker (release ∷ earlier) e = any_weaker p q weaker earlier e
-any_weaker p q weaker (was_read slot ∷ earlier) e = any_weaker p q weaker earlier e
 any_weaker p q weaker (store s ∷ earlier) e = go (p s) refl (any_weaker p q weaker earlier) e
   where
     go :
@@ -48,6 +46,7 @@ any_weaker p q weaker (store s ∷ earlier) e = go (p s) refl (any_weaker p q we
         → (q s || any_store q earlier) ≡ true
     go true passed rest e = ap (λ (t : Bool). t || any_store q earlier) (weaker s passed)
     go false failed rest e = or_right (q s) (any_store q earlier) (rest e)
+any_weaker p q weaker (_ ∷ earlier) e = any_weaker p q weaker earlier e
 
 -- the latest store, and those before it
 module _ (test : Store → Bool) (s : Store) (events : List Event) where
@@ -67,35 +66,17 @@ record Modes (scan : ℕ) : Type 0 where
   unended : (eqb scan 2 || eqb scan 4) ≡ false
   untriggered : eqb scan 5 ≡ false
 
--- of a scan that is one of two, what both are
-either_scan : (a b scan : ℕ) → (eqb scan a || eqb scan b) ≡ true → Modes a → Modes b → Modes scan
-either_scan a b scan e first second = go (eqb scan a) refl e
-  where
-    go : (t : Bool) → eqb scan a ≡ t → (t || eqb scan b) ≡ true → Modes scan
-    go true is e = subst Modes (sym (eqb-true scan a is)) first
-    go false other e = subst Modes (sym (eqb-true scan b e)) second
-
 continuous_modes : (r : Registers) → is_continuous r ≡ true → Modes (scan_field r.control)
-continuous_modes r e =
-    either_scan _ _ (scan_field r.control) e (record { timed = refl; unended = refl; untriggered = refl })
-    (record { timed = refl; unended = refl; untriggered = refl })
+continuous_modes r e = grind arith
 
 -- the burst modes are not uniform
 burst_not_uniform : (r : Registers) → is_burst r ≡ true → is_uniform r ≡ false
-burst_not_uniform r e = go (eqb (scan_field r.control) 3) refl e
-  where
-    go : (t : Bool) → eqb (scan_field r.control) 3 ≡ t → (t || eqb (scan_field r.control) 4) ≡ true → is_uniform r ≡ false
-    go true three e = rw (eqb-true (scan_field r.control) 3 three)
-    go false other e = rw (eqb-true (scan_field r.control) 4 e)
+burst_not_uniform r e = grind arith
 
 -- a start leaves the registers as they are
 start_registers : (l : Logbook) → (starts l).registers ≡ l.registers
 unfolding starts
-start_registers l = go (is_burst l.registers) (with_happened l l.tick l.taken (since l.tick []) (cycle_start ∷ l.events)) refl
-  where
-    go : (burst : Bool) (fresh : Logbook) → fresh.registers ≡ l.registers → (cond burst (begins 0 fresh) fresh).registers ≡ l.registers
-    go true fresh same = same
-    go false fresh same = same
+start_registers l = grind arith
 
 -- ---- a scan that runs on
 
@@ -108,7 +89,7 @@ module _ (r : Registers) (T : ℕ) (startable : Startable r) (continuous : is_co
   is_store_of k s = eqb s.slot (slot_of r k) && eqb s.tick (T + begins_at r k + 64)
 
   is_store : (k : ℕ) (s : Store) → s.slot ≡ slot_of r k → s.tick ≡ T + begins_at r k + 64 → is_store_of k s ≡ true
-  is_store k s slot tick = rw (eq-eqb s.slot (slot_of r k) slot, eq-eqb s.tick (T + begins_at r k + 64) tick)
+  is_store k s slot tick = grind arith
 
   -- the cycle runs since T by these registers, but for the board enable, and has made every store that was due
   record Runs (l : Logbook) : Type 0 where
@@ -120,7 +101,7 @@ module _ (r : Registers) (T : ℕ) (startable : Startable r) (continuous : is_co
   module _ (l : Logbook) (h : Runs l) where
     begins_same : (k : ℕ) → begins_at l.registers k ≡ begins_at r k
     unfolding begins_at
-    begins_same k = ap (λ (s : Registers). begins_at s k) h.registers
+    begins_same k = grind arith
 
     slot_same : (k : ℕ) → slot_of l.registers k ≡ slot_of r k
     slot_same k = ap (λ (s : Registers). slot_of s k) h.registers
@@ -146,7 +127,7 @@ module _ (r : Registers) (T : ℕ) (startable : Startable r) (continuous : is_co
         go (conversion k) = any_earlier test (store_next k) l.events e
 
     scheduled_here : (k : ℕ) → is_scheduled l.registers k ≡ true
-    scheduled_here k = ap (λ (s : Registers). is_scheduled s k) h.registers ∙ rw (modes.timed, modes.unended)
+    scheduled_here k = grind arith
 
     stored_now : (k : ℕ) → T + begins_at r k + 64 ≡ suc l.tick → any_store (is_store_of k) (tick_passes l).events ≡ true
     stored_now k at =
@@ -178,57 +159,32 @@ module _ (r : Registers) (T : ℕ) (startable : Startable r) (continuous : is_co
   -- a call that leaves tick, cycle and registers as they are, and makes no store
   still : (l after : Logbook) → after.cycle ≡ l.cycle → after.registers ≡ l.registers → after.tick ≡ l.tick
       → ((test : Store → Bool) → any_store test after.events ≡ any_store test l.events) → Runs l → Runs after
-  still l after cycle registers tick events h =
-      record {
-        cycle = cycle ∙ h.cycle;
-        enable = h.enable;
-        registers = registers ∙ h.registers;
-        stored = λ k made. events (is_store_of k) ∙ h.stored k (subst (λ (n : ℕ). T + begins_at r k + 64 ≤ n) tick made);
-      }
+  still l after cycle registers tick events h = grind arith
 
   module _ (l : Logbook) (h : Runs l) where
     -- the board enable, and a release or none
     interrupt_runs : (word : ℕ) → Runs (writes Interrupt word l)
     unfolding writes with_word any_store
-    interrupt_runs word =
-        record {
-          cycle = h.cycle;
-          enable = bit_of 0 word;
-          registers = ap (λ (s : Registers). enabled s (bit_of 0 word)) h.registers;
-          stored = λ k made. released (is_store_of k) (bit_of 15 word) (h.stored k made);
-        }
-      where
-        released :
-            (test : Store → Bool) (t : Bool) → any_store test l.events ≡ true → any_store test (cond t (release ∷ l.events) l.events) ≡ true
-        released test true e = e
-        released test false e = e
+    interrupt_runs word = grind arith
 
     -- a write that question 6 lets through while a cycle runs, and that is no stop
     write_runs :
         (register : Register) (word : ℕ) → is_allowed false register word (with_word register word l.registers) ≡ true
         → is_stop register word ≡ false → is_start register word ≡ false → Runs (writes register word l)
     unfolding writes with_word
-    write_runs Unmapped word allowed on unstarted = absurd (false≢true allowed)
     write_runs Interrupt word allowed on unstarted = interrupt_runs word
-    write_runs Control word allowed on unstarted =
-        never (eqb (scan_field word) 0) (subst (λ (n : ℕ). eqb n 0 ≡ true) (kept_scan word) allowed) on
-    write_runs Prescaler word allowed on unstarted = absurd (false≢true allowed)
-    write_runs Timer word allowed on unstarted = absurd (false≢true allowed)
-    write_runs Channels word allowed on unstarted = absurd (false≢true allowed)
+    write_runs Control word allowed on unstarted = cc (kept_scan word)
     write_runs StartConvert word allowed on unstarted = subst (λ (t : Bool). Runs (cond t (starts l) l)) (sym unstarted) h
-    write_runs (NewData half) word allowed on unstarted = absurd (false≢true allowed)
-    write_runs (MissedData half) word allowed on unstarted = absurd (false≢true allowed)
-    write_runs (Gain group) word allowed on unstarted = absurd (false≢true allowed)
-    write_runs (Mailbox slot) word allowed on unstarted = absurd (false≢true allowed)
+    write_runs _ word allowed on unstarted = cc
 
     -- a trigger is ignored
     trigger_runs : Runs (trigger_comes l)
     trigger_runs =
         triggered Runs l h (λ e only. busy e) (λ e only. busy e)
-        (λ later triggers e only field taken. never (is_trigger_only l.registers) only (ap is_trigger_only h.registers ∙ modes.untriggered))
+        (λ later triggers e only field taken. cc modes.untriggered)
       where
         busy : {A : Type 0} → l.cycle ≡ idle → A
-        busy e = never true refl (sym (ap is_idle e) ∙ ap is_idle h.cycle)
+        busy e = cc
 
     accepted_write :
         (width offset value : ℕ) → first_no (logbook_questions l (write width offset value)) ≡ 0
@@ -244,7 +200,7 @@ module _ (r : Registers) (T : ℕ) (startable : Startable r) (continuous : is_co
           arith,
           some_first (logbook_questions l (write width offset value)) some,
         )))
-        (true_or_false (all_met (logbook_questions l (write width offset value))))
+        (cases_Bool (all_met (logbook_questions l (write width offset value))))
 
     happens_runs : (call : Call) → first_no (logbook_questions l call) ≡ 0 → stops_or_resets l call ≡ false → Runs (happens l call)
     unfolding happens any_store
@@ -262,7 +218,7 @@ module _ (r : Registers) (T : ℕ) (startable : Startable r) (continuous : is_co
     happens_runs (input channel microvolts) met on = still l _ refl refl refl (λ test. refl) h
     happens_runs (advance ticks) met on = ticks_run ticks l h
     happens_runs trigger met on = trigger_runs
-    happens_runs reset met on = never true refl on
+    happens_runs reset met on = cc
     happens_runs (look slot) met on = h
     happens_runs (clear slot) met on = still l _ refl refl refl (λ test. refl) h
 
@@ -273,8 +229,8 @@ module _ (r : Registers) (T : ℕ) (startable : Startable r) (continuous : is_co
   unfolding runs_on logged_from
   calls_run [] l on h = h
   calls_run (call ∷ calls) l on h =
-      calls_run calls (logged l call) (and_right (not (stops_or_resets l call)) (runs_on (logged l call) calls) on)
-      (call_runs l h call (not-true (stops_or_resets l call) (and_left (not (stops_or_resets l call)) (runs_on (logged l call) calls) on)))
+      calls_run calls (logged l call) (and_parts _ _ on).1
+      (call_runs l h call (not-true (stops_or_resets l call) (and_parts _ _ on).0))
 
   -- the cycle has just started
   started_runs : (l : Logbook) → l.tick ≡ T → l.registers ≡ r → Runs (starts l)
@@ -298,7 +254,7 @@ module _ (r : Registers) (T : ℕ) (startable : Startable r) (continuous : is_co
         let at : begins_at r k ≡ f.q * (n * pass_ticks r) + begins_at r i = later_begins r n f.q i in
         any_weaker (is_store_of k) (λ made. slots made.slot && covers t (t + (n * pass_ticks r + more)) made.tick)
         (λ made is.
-        inside k made (eqb-true _ _ (and_left _ _ is)) (eqb-true _ _ (and_right (eqb made.slot (slot_of r k)) _ is)) (fits f.q) (rw at f.after)
+        inside k made (eqb-true _ _ (and_parts _ _ is).0) (eqb-true _ _ (and_parts _ _ is).1) (fits f.q) (rw at f.after)
         (rw at f.by))
         l.events
         (h.stored k (rw at (omega (arith, f.by))))
@@ -318,29 +274,11 @@ module _ (l : Logbook) (stood : is_idle l.cycle ≡ true) where
   Started after = is_idle after.cycle ≡ false → after ≡ starts l
 
   stands : (after : Logbook) → is_idle after.cycle ≡ true → Started after
-  stands after free busy = never (is_idle after.cycle) free busy
+  stands after free busy = cc
 
   write_starts : (register : Register) (word : ℕ) → Started (writes register word l)
   unfolding writes with_word
-  write_starts Unmapped word = stands _ stood
-  write_starts Interrupt word = stands _ stood
-  write_starts Control word = stands _ (go (eqb (scan_field word) 0))
-    where
-      go : (stops : Bool) → is_idle (cond stops idle l.cycle) ≡ true
-      go true = refl
-      go false = stood
-  write_starts Prescaler word = stands _ stood
-  write_starts Timer word = stands _ stood
-  write_starts Channels word = stands _ stood
-  write_starts StartConvert word = go (bit_of 0 word)
-    where
-      go : (start : Bool) → Started (cond start (starts l) l)
-      go true busy = refl
-      go false busy = stands l stood busy
-  write_starts (NewData half) word = stands _ stood
-  write_starts (MissedData half) word = stands _ stood
-  write_starts (Gain group) word = stands _ stood
-  write_starts (Mailbox slot) word = stands _ stood
+  write_starts register word = grind arith
 
   -- in a mode other than external trigger only
   module _ (untriggered : is_trigger_only l.registers ≡ false) where
@@ -352,8 +290,8 @@ module _ (l : Logbook) (stood : is_idle l.cycle ≡ true) where
     happens_starts (input channel microvolts) = stands _ stood
     happens_starts (advance ticks) = stands _ (ticks_cycle (λ (c : Running). is_idle c ≡ true) refl ticks l stood)
     happens_starts trigger =
-        triggered Started l (stands l stood) (λ e other busy. refl) (λ e only. never (is_trigger_only l.registers) only untriggered)
-        (λ T triggers e. never (is_idle l.cycle) stood (ap is_idle e))
+        triggered Started l (stands l stood) (λ e other busy. refl) (λ e only. cc)
+        (λ T triggers e. cc)
     happens_starts reset = stands _ refl
     happens_starts (look slot) = stands l stood
     happens_starts (clear slot) = stands _ stood
@@ -397,12 +335,7 @@ module _ (c : CycleList) (runs : RunsContinuously c) where
 
 -- a channel's slot, in either half
 own_slot : (r : Registers) (channel k : ℕ) → channel_of r k ≡ channel → is_slot_of r channel (slot_of r k) ≡ true
-own_slot r channel k e = go (is_differential r) (in_odd_pass r k)
-  where
-    go : (d odd : Bool) → (eqb (channel_of r k + cond (d && odd) 16 0) channel || d && eqb (channel_of r k + cond (d && odd) 16 0) (channel + 16)) ≡ true
-    go true true = or_right (eqb (channel_of r k + 16) channel) _ (eq-eqb (channel_of r k + 16) (channel + 16) (omega arith))
-    go true false = ap (λ (t : Bool). t || eqb (channel_of r k + 0) (channel + 16)) (eq-eqb (channel_of r k + 0) channel (omega arith))
-    go false odd = ap (λ (t : Bool). t || false) (eq-eqb (channel_of r k + 0) channel (omega arith))
+own_slot r channel k e = grind arith
 
 -- the place of a scanned channel, and its stores in a span of one pass and some ticks more
 module _ (c : CycleList) (runs : RunsContinuously c) (t channel : ℕ) (scanned : Scanned (registers_of c) channel) where
@@ -465,33 +398,23 @@ slot_waiting_time c runs t k span =
 
 pub short_misses : ShortMisses
 unfolding any_store runs_on logged_from logged call_questions first_no happens writes with_word word_at class_of joined held_word written_word starts ticks_pass tick_passes due_after first_from begins_at
-short_misses =
-    record {
-      continuous = record { valid = omega arith; idle_before = refl; runs_after = refl; mode = refl; unstopped = refl };
-      uniform = refl;
-      scanned = record { first = omega arith; last = omega arith };
-      span = record { from = omega arith; to = omega arith };
-      missed = refl;
-    }
+short_misses = grind arith
 
 -- a longer span covers what a shorter one does
 longer_covers : (t end later tick : ℕ) → end ≤ later → covers t end tick ≡ true → covers t later tick ≡ true
-longer_covers t end later tick h e =
-    let least : ltb t tick ≡ true = and_left (ltb t tick) (leb tick end) e in
-    let most = leb-true tick end (and_right (ltb t tick) (leb tick end) e) in
-    rw (least, le-leb tick later (omega arith))
+longer_covers t end later tick h e = grind arith
 
 module _ (c : CycleList) (t length longer : ℕ) (h : length ≤ longer) where
   shorter_span : Span c t longer → Span c t length
-  shorter_span span = record { from = span.from; to = omega (arith, span.to) }
+  shorter_span span = grind arith
 
   longer_stores : (slots : ℕ → Bool) → span_stores slots c t length ≡ true → span_stores slots c t longer ≡ true
   longer_stores slots =
       any_weaker (λ made. slots made.slot && covers t (t + length) made.tick)
       (λ made. slots made.slot && covers t (t + longer) made.tick)
       (λ made e.
-      let own : slots made.slot ≡ true = and_left (slots made.slot) (covers t (t + length) made.tick) e in
-      rw (own, longer_covers t (t + length) (t + longer) made.tick (omega arith) (and_right (slots made.slot) (covers t (t + length) made.tick) e)))
+      let parts : (slots made.slot ≡ true) × (covers t (t + length) made.tick ≡ true) = and_parts _ _ e in
+      rw (parts.0, longer_covers t (t + length) (t + longer) made.tick (omega arith) parts.1))
       (at_end c).events
 
 -- a figure below 64 would make the short span store what it misses
@@ -503,7 +426,7 @@ none_shorter c t channel more less runs scanned span missed waits =
     let pass : ℕ = pass_ticks (registers_of c) in
     let within : pass + more ≤ pass + 63 = omega arith in
     let stored = waits c runs t channel (shorter_span c t (pass + more) (pass + 63) within span) scanned in
-    never _ (longer_stores c t (pass + more) (pass + 63) within (is_slot_of (registers_of c) channel) stored) missed
+    cc (longer_stores c t (pass + more) (pass + 63) within (is_slot_of (registers_of c) channel) stored)
 
 pub no_shorter_wait : NoShorterWait
 no_shorter_wait more less =

@@ -322,13 +322,9 @@ after_call b (clear slot) = after_clear slot b
 
 unfoldable pub value_of_call : Board → Call → ℕ
 value_of_call b (read width offset) = read_bytes width offset (read_word (view_of b) (class_of offset))
-value_of_call b (write width offset value) = 0
-value_of_call b (input channel microvolts) = 0
 value_of_call b (advance ticks) = stores_in ticks b
-value_of_call b trigger = 0
-value_of_call b reset = 0
 value_of_call b (look slot) = look_value (view_of b) slot
-value_of_call b (clear slot) = 0
+value_of_call b _ = 0
 
 -- the questions of a call on this board
 abbrev pub questions_of : Board → Call → List Question

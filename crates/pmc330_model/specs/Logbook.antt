@@ -61,10 +61,8 @@ opened range inputs earlier =
 unfoldable pub last_store : (slot : ℕ) → List Event → ℕ
 last_store slot [] = 0
 last_store slot (was_reset ∷ earlier) = 0
-last_store slot (cycle_start ∷ earlier) = last_store slot earlier
-last_store slot (release ∷ earlier) = last_store slot earlier
-last_store slot (was_read s ∷ earlier) = last_store slot earlier
 last_store slot (store s ∷ earlier) = cond (eqb s.slot slot) s.code (last_store slot earlier)
+last_store slot (_ ∷ earlier) = last_store slot earlier
 
 -- the stores in that mailbox that "followed the last read of that mailbox, cycle start or reset"
 unfoldable pub stores_since : (slot : ℕ) → List Event → ℕ
@@ -79,19 +77,15 @@ stores_since slot (store s ∷ earlier) = cond (eqb s.slot slot) 1 0 + stores_si
 unfoldable pub interrupted : List Event → Bool
 interrupted [] = false
 interrupted (was_reset ∷ earlier) = false
-interrupted (cycle_start ∷ earlier) = interrupted earlier
 interrupted (release ∷ earlier) = false
-interrupted (was_read s ∷ earlier) = interrupted earlier
 interrupted (store s ∷ earlier) = s.interrupts || interrupted earlier
+interrupted (_ ∷ earlier) = interrupted earlier
 
 -- all stores
 unfoldable pub stores_made : List Event → ℕ
 stores_made [] = 0
-stores_made (was_reset ∷ earlier) = stores_made earlier
-stores_made (cycle_start ∷ earlier) = stores_made earlier
-stores_made (release ∷ earlier) = stores_made earlier
-stores_made (was_read s ∷ earlier) = stores_made earlier
 stores_made (store s ∷ earlier) = suc (stores_made earlier)
+stores_made (_ ∷ earlier) = stores_made earlier
 
 -- what a board with these events shows through its registers, and to a look
 abbrev pub logbook_view : Logbook → View
@@ -285,13 +279,9 @@ logged l call = cond (eqb (first_no (logbook_questions l call)) 0) (happens l ca
 -- the value of an accepted call; of an advance "the number of stores made in it"
 unfoldable pub logged_value : Logbook → Call → ℕ
 logged_value l (read width offset) = read_bytes width offset (read_word (logbook_view l) (class_of offset))
-logged_value l (write width offset value) = 0
-logged_value l (input channel microvolts) = 0
 logged_value l (advance ticks) = stores_made (ticks_pass ticks l).events - stores_made l.events
-logged_value l trigger = 0
-logged_value l reset = 0
 logged_value l (look slot) = look_value (logbook_view l) slot
-logged_value l (clear slot) = 0
+logged_value l _ = 0
 
 abbrev pub logged_answer : Logbook → Call → Answer
 logged_answer l call = answered (logbook_questions l call) (logged_value l call)

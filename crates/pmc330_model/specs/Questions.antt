@@ -1,10 +1,11 @@
 -- Document 01, "Questions asked of a call, in order", and question 22 of document 02.
 -- They are asked of the registers, the gains and whether the board is idle, so that the board and the logbook can both answer them.
-use Rattle.std.specs.Prelude.{ℕ, ◌/◌, ◌%◌, ◌^◌, Bool, true, false, cond, not, ◌&&◌, ◌||◌, List, [], ◌∷◌, ◌++◌, eqb, ltb, leb, ℤ, pos, neg_ℤ}
+use Rattle.std.specs.Prelude.{ℕ, ◌/◌, ◌%◌, ◌^◌, Bool, true, cond, not, ◌&&◌, ◌||◌, List, [], ◌∷◌, ◌++◌, eqb, ltb, leb, ℤ, pos, neg_ℤ}
 use Rattle.std.specs.Int.Signed.{le_z}
 use Rattle.analog.specs.Answers.{Question, question}
-use Rattle.pmc330_model.specs.Map.{class_of, is_mapped, is_readable, is_writable, if_interrupt, if_control, if_channels, if_start_convert, trigger_field, acquisition_field, scan_field, is_timer_enabled, interrupt_field}
+use Rattle.pmc330_model.specs.Map.{class_of, is_mapped, is_readable, is_writable, trigger_field, acquisition_field, scan_field, is_timer_enabled, interrupt_field}
 use Rattle.pmc330_model.specs.declared.Register.{Register}
+use Rattle.pmc330_model.specs.declared.Register.TheVariants.{Interrupt, Control, Channels, StartConvert}
 use Rattle.pmc330_model.specs.Words.{held_word, written_word, with_word, bit_of, is_start}
 use Rattle.pmc330_model.specs.Schedule.{interval, is_differential, is_uniform}
 use Rattle.pmc330_model.specs.Calls.{Call, read, write, input, advance, trigger, reset, look, clear}
@@ -22,11 +23,10 @@ is_aligned width offset = ltb offset 256 && eqb (offset % (width / 8)) 0
 -- 6. "Is the board idle, or is this a read, an Interrupt write, a Control write whose resulting scan field is 000,
 -- or a Start Convert write that doesn't set bit 0?" Asked of a write, by the word and the Control that it results in
 abbrev pub is_allowed : (idle : Bool) → Register → (word : ℕ) → (resulting : Registers) → Bool
-is_allowed idle register word resulting =
-    idle
-    || if_interrupt register true
-    (if_control register (eqb (scan_field resulting.control) 0)
-    (if_start_convert register (not (bit_of 0 word)) false))
+is_allowed idle Interrupt word resulting = true
+is_allowed idle Control word resulting = idle || eqb (scan_field resulting.control) 0
+is_allowed idle StartConvert word resulting = idle || not (bit_of 0 word)
+is_allowed idle _ word resulting = idle
 
 -- "no not-used code": trigger 11, acquisition 010, scan 110 and 111, interrupt 11
 abbrev pub has_used_codes : (control : ℕ) → Bool
@@ -39,9 +39,9 @@ has_used_codes word =
 -- 7. "Does the resulting Control hold no not-used code, and are the resulting Start and End Channel (10H only) at most 31?"
 -- Every other write meets it
 abbrev pub is_valid : Register → (resulting : Registers) → Bool
-is_valid register resulting =
-    if_control register (has_used_codes resulting.control)
-    (if_channels register (leb resulting.start 31 && leb resulting.end 31) true)
+is_valid Control resulting = has_used_codes resulting.control
+is_valid Channels resulting = leb resulting.start 31 && leb resulting.end 31
+is_valid _ resulting = true
 
 -- 9. "Is Start at most End, and End at most 15 if differential?"
 abbrev pub has_channels : Registers → Bool

@@ -7,10 +7,10 @@ use Rattle.analog.specs.Sums.{sum_of}
 use Rattle.pmc330_model.specs.Map.{trigger_field}
 use Rattle.pmc330_model.specs.Words.{bit_of, read_bytes}
 use Rattle.pmc330_model.specs.Schedule.{is_timed, is_trigger_only, channel_of, slot_of, ends_pass, code_at, begins_at, is_scheduled, conversion}
-use Rattle.pmc330_model.specs.Calls.{Call, read, write, input, advance, trigger, reset, look, clear}
+use Rattle.pmc330_model.specs.Calls.{Call, read, advance, trigger, reset, look, clear}
 use Rattle.pmc330_model.specs.Questions.{call_questions, has_channels}
 use Rattle.pmc330_model.specs.Board.{board_call, new_call, new_board, read_call, advance_call, look_call, clear_call, view_of, request_line, next_store, board_after, answers_of}
-use Rattle.pmc330_model.specs.Logbook.{Event, was_reset, cycle_start, release, was_read, store, store_at, idle, since, is_idle, Logbook, last_store, stores_since, interrupted, with_happened, due_after, tick_passes, ticks_pass, logged, logbook_of, logbook_answers}
+use Rattle.pmc330_model.specs.Logbook.{Event, store, store_at, idle, since, is_idle, Logbook, last_store, stores_since, interrupted, with_happened, due_after, tick_passes, ticks_pass, logged, logbook_of, logbook_answers}
 use Rattle.pmc330_model.specs.declared.Registers.{Registers}
 use Rattle.pmc330_model.specs.declared.Board.{Board}
 use Rattle.analog.specs.declared.Refusal.TheVariants.{BadRange}
@@ -106,34 +106,21 @@ pub record InCycle (l : Logbook) (T : ℕ) (triggers : List ℕ) : Type 0 where
 
 -- the calls that may make a store: an advance, and a trigger in external trigger only
 abbrev pub may_store : Registers → Call → Bool
-may_store r (read width offset) = false
-may_store r (write width offset value) = false
-may_store r (input channel microvolts) = false
 may_store r (advance ticks) = true
 may_store r trigger = is_trigger_only r
-may_store r reset = false
-may_store r (look slot) = false
-may_store r (clear slot) = false
+may_store r _ = false
 
 -- a call that leaves the tick as it is where it is accepted: an advance moves it, and a reset begins at 0 again
 abbrev pub is_timeless : Call → Bool
-is_timeless (read width offset) = true
-is_timeless (write width offset value) = true
-is_timeless (input channel microvolts) = true
 is_timeless (advance ticks) = false
-is_timeless trigger = true
 is_timeless reset = false
-is_timeless (look slot) = true
-is_timeless (clear slot) = true
+is_timeless _ = true
 
 -- the stores among the events
 unfoldable pub stores_among : List Event → List Event
 stores_among [] = []
-stores_among (was_reset ∷ earlier) = stores_among earlier
-stores_among (cycle_start ∷ earlier) = stores_among earlier
-stores_among (release ∷ earlier) = stores_among earlier
-stores_among (was_read slot ∷ earlier) = stores_among earlier
 stores_among (store s ∷ earlier) = store s ∷ stores_among earlier
+stores_among (_ ∷ earlier) = stores_among earlier
 
 -- Of a logbook: a cycle has its T from the call that begins it and keeps it, and a timed one is as above
 pub record Scheduled (l : Logbook) : Type 0 where

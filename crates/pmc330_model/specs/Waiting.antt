@@ -6,25 +6,20 @@ use Rattle.analog.specs.Answers.{all_met}
 use Rattle.pmc330_model.specs.Map.{class_of}
 use Rattle.pmc330_model.specs.Words.{is_stop}
 use Rattle.pmc330_model.specs.Schedule.{is_uniform, is_burst, is_continuous, is_differential, slot_of, pass_ticks}
-use Rattle.pmc330_model.specs.Calls.{Call, read, write, input, advance, trigger, reset, look, clear}
+use Rattle.pmc330_model.specs.Calls.{Call, write, advance, reset}
 use Rattle.pmc330_model.specs.Questions.{resulting_word}
-use Rattle.pmc330_model.specs.Logbook.{Event, was_reset, cycle_start, release, was_read, Store, store, Logbook, is_idle, logbook_questions, logged, logbook_of}
+use Rattle.pmc330_model.specs.Logbook.{Event, was_reset, cycle_start, Store, store, Logbook, is_idle, logbook_questions, logged, logbook_of}
 use Rattle.pmc330_model.specs.declared.Registers.{Registers}
 
 -- ---- the list
 
 -- "stop or reset": 01's "An accepted Control write with scan 000 ends the cycle", and a reset. A refused call is neither
 abbrev pub stops_or_resets : Logbook → Call → Bool
-stops_or_resets l (read width offset) = false
 stops_or_resets l (write width offset value) =
     all_met (logbook_questions l (write width offset value))
     && is_stop (class_of offset) (resulting_word l.registers l.gains width offset value)
-stops_or_resets l (input channel microvolts) = false
-stops_or_resets l (advance ticks) = false
-stops_or_resets l trigger = false
 stops_or_resets l reset = true
-stops_or_resets l (look slot) = false
-stops_or_resets l (clear slot) = false
+stops_or_resets l _ = false
 
 -- whether no call of a list is a stop or reset
 unfoldable pub runs_on : Logbook → List Call → Bool
@@ -76,9 +71,8 @@ unfoldable pub any_store : (test : Store → Bool) → List Event → Bool
 any_store test [] = false
 any_store test (was_reset ∷ earlier) = false
 any_store test (cycle_start ∷ earlier) = false
-any_store test (release ∷ earlier) = any_store test earlier
-any_store test (was_read slot ∷ earlier) = any_store test earlier
 any_store test (store made ∷ earlier) = test made || any_store test earlier
+any_store test (_ ∷ earlier) = any_store test earlier
 
 -- "contains at least one store", in a slot that passes a test
 abbrev pub span_stores : (slots : ℕ → Bool) → (c : CycleList) → (t length : ℕ) → Bool

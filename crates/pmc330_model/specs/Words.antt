@@ -1,8 +1,8 @@
 -- Document 01, "Register map": what the words hold, and what a read or a write of any width covers of them.
 use Rattle.std.specs.Prelude.{ℕ, zero, suc, ◌+◌, ◌-◌, ◌*◌, ◌/◌, ◌%◌, ◌^◌, Bool, false, cond, ◌&&◌, List, eqb, ltb, leb, get_or, set}
-use Rattle.pmc330_model.specs.Map.{by_register, if_interrupt, if_control, if_start_convert, if_gain, kept_control, scan_field}
+use Rattle.pmc330_model.specs.Map.{kept_control, scan_field}
 use Rattle.pmc330_model.specs.declared.Register.{Register}
-use Rattle.pmc330_model.specs.declared.Register.TheVariants.{Unmapped, Interrupt, Control, Prescaler, Timer, Channels, StartConvert, NewData, MissedData, Gain, Mailbox}
+use Rattle.pmc330_model.specs.declared.Register.TheVariants.{Interrupt, Control, Prescaler, Timer, Channels, StartConvert, NewData, MissedData, Gain, Mailbox}
 use Rattle.pmc330_model.specs.declared.Registers.{Registers}
 
 -- count digits to a base, the first one lowest: a word of bits or of two-bit gains
@@ -27,7 +27,6 @@ pub record View : Type 0 where
 
 -- the word as the registers hold it, of which a narrow write keeps the other byte
 unfoldable pub held_word : Registers → (gains : List ℕ) → Register → ℕ
-held_word r gains Unmapped = 0
 -- "bit 0 board enable"
 held_word r gains Interrupt = to_bit r.enable
 held_word r gains Control = r.control
@@ -36,29 +35,20 @@ held_word r gains Prescaler = r.prescaler * 0x100
 held_word r gains Timer = r.timer
 -- "low byte Start Channel, high byte End Channel"
 held_word r gains Channels = r.start + r.end * 0x100
--- Start Convert holds nothing: a byte write to 25H never sets bit 0
-held_word r gains StartConvert = 0
-held_word r gains (NewData half) = 0
-held_word r gains (MissedData half) = 0
 -- "eight channels a word, two bits each from bit 0, channel 0 first"
 held_word r gains (Gain group) = joined 4 (λ i. get_or gains (8 * group + i) 0) 8
-held_word r gains (Mailbox slot) = 0
+-- Start Convert holds nothing: a byte write to 25H never sets bit 0; the other registers take no write
+held_word r gains _ = 0
 
 -- the word that is read
 unfoldable pub read_word : View → Register → ℕ
-read_word v Unmapped = 0
 -- "bit 1 pending, read only"; "bit 15 reads 0"; "Other bits read 0"
 read_word v Interrupt = held_word v.registers v.gains Interrupt + to_bit v.pending * 2
-read_word v Control = held_word v.registers v.gains Control
-read_word v Prescaler = held_word v.registers v.gains Prescaler
-read_word v Timer = held_word v.registers v.gains Timer
-read_word v Channels = held_word v.registers v.gains Channels
-read_word v StartConvert = 0
 -- "New Data, slots 0-15 and 16-31", Missed Data "likewise"
 read_word v (NewData half) = joined 2 (λ i. to_bit (v.is_new (16 * half + i))) 16
 read_word v (MissedData half) = joined 2 (λ i. to_bit (v.is_missed (16 * half + i))) 16
-read_word v (Gain group) = held_word v.registers v.gains (Gain group)
 read_word v (Mailbox slot) = v.code slot
+read_word v register = held_word v.registers v.gains register
 
 -- 02, A2: "A look's value is the code, plus 65536 if New, plus 131072 if Missed."
 abbrev pub look_value : View → (slot : ℕ) → ℕ
@@ -82,17 +72,17 @@ written_word width offset value old =
 
 -- the registers after a register takes a word
 unfoldable pub with_word : Register → (word : ℕ) → Registers → Registers
-with_word register word r =
-    by_register register
-    (record { enable = bit_of 0 word; control = r.control; prescaler = r.prescaler; timer = r.timer; start = r.start; end = r.end })
-    (record { enable = r.enable; control = kept_control word; prescaler = r.prescaler; timer = r.timer; start = r.start; end = r.end })
-    (record { enable = r.enable; control = r.control; prescaler = word / 0x100; timer = r.timer; start = r.start; end = r.end })
-    (record { enable = r.enable; control = r.control; prescaler = r.prescaler; timer = word; start = r.start; end = r.end })
-    (record { enable = r.enable; control = r.control; prescaler = r.prescaler; timer = r.timer; start = word % 0x100; end = word / 0x100 })
-    r
-    (λ group. r)
-    (λ slot. r)
-    r
+with_word Interrupt word r =
+    record { enable = bit_of 0 word; control = r.control; prescaler = r.prescaler; timer = r.timer; start = r.start; end = r.end }
+with_word Control word r =
+    record { enable = r.enable; control = kept_control word; prescaler = r.prescaler; timer = r.timer; start = r.start; end = r.end }
+with_word Prescaler word r =
+    record { enable = r.enable; control = r.control; prescaler = word / 0x100; timer = r.timer; start = r.start; end = r.end }
+with_word Timer word r =
+    record { enable = r.enable; control = r.control; prescaler = r.prescaler; timer = word; start = r.start; end = r.end }
+with_word Channels word r =
+    record { enable = r.enable; control = r.control; prescaler = r.prescaler; timer = r.timer; start = word % 0x100; end = word / 0x100 }
+with_word _ word r = r
 
 -- the gains after `count` channels, from `channel` on, took two bits each of the word
 unfoldable pub gains_from : (channel word count : ℕ) → List ℕ → List ℕ
@@ -100,16 +90,20 @@ gains_from channel word zero gains = gains
 gains_from channel word (suc n) gains = set (gains_from channel word n gains) (channel + n) (word / 4 ^ n % 4)
 
 abbrev pub gains_with : Register → (word : ℕ) → List ℕ → List ℕ
-gains_with register word gains = if_gain register (λ group. gains_from (8 * group) word 8 gains) gains
+gains_with (Gain group) word gains = gains_from (8 * group) word 8 gains
+gains_with _ word gains = gains
 
 -- what an accepted write of a word does besides. 00H: "writing 1 to bit 15 releases"
 abbrev pub is_release : Register → (word : ℕ) → Bool
-is_release register word = if_interrupt register (bit_of 15 word) false
+is_release Interrupt word = bit_of 15 word
+is_release _ word = false
 
 -- "An accepted Control write with scan 000 ends the cycle"
 abbrev pub is_stop : Register → (word : ℕ) → Bool
-is_stop register word = if_control register (eqb (scan_field word) 0) false
+is_stop Control word = eqb (scan_field word) 0
+is_stop _ word = false
 
 -- "Start Convert with bit 0 set"
 abbrev pub is_start : Register → (word : ℕ) → Bool
-is_start register word = if_start_convert register (bit_of 0 word) false
+is_start StartConvert word = bit_of 0 word
+is_start _ word = false

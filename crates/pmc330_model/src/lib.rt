@@ -7,7 +7,7 @@ use analog::Answer;
 // are 32 mailboxes.
 #[derive(Clone, Copy, Debug, PartialEq, Eq)]
 pub enum Register {
-    // no register at all: a class of the map's table like the others
+    // no register at all: the map gives every offset one of these, and with an Option each entry of its table would be a Some
     Unmapped,
     Interrupt,
     Control,
@@ -37,7 +37,8 @@ pub struct Registers {
 
 // Where a cycle stands. Times are relative and bounded: a list of calls has no bound, and so no tick count fits.
 // C holds these fields as words with any contents, so 0 stands for none here, and a slot stays beside `waiting`.
-#[derive(Clone, Copy, Debug, PartialEq, Eq)]
+// The default is the idle cycle.
+#[derive(Clone, Copy, Debug, Default, PartialEq, Eq)]
 pub struct Cycle {
     // not idle
     pub running: bool,
@@ -55,7 +56,7 @@ pub struct Cycle {
     pub odd: bool,
 }
 
-// The board, passed by value.
+// The board, passed by value. One array for each thing that slots and channels have: C lends them one by one.
 #[derive(Clone, Copy)]
 pub struct Board {
     // 0 to 3; a board that C holds may have any number here
@@ -79,7 +80,7 @@ pub struct Reply {
     pub answer: Answer,
 }
 
-// What a look hands back: a record of its own, to which request A11 adds the age.
+// What a look hands back: no Reply, since document 02 settles that its record is its own (A11 adds the age to it).
 #[derive(Clone, Copy)]
 pub struct Look {
     pub board: Board,

@@ -11,12 +11,12 @@ ghost use Rattle.pmc330_replay.specs.Printed.{printed_of};
 
 use analog::Refusal;
 use lines::Line;
+use reads::MOST_BYTES;
 use std::io;
 use std::io::{Read, Write};
 use trace::Replayed;
 
-const MOST_BYTES: usize = 32_768;
-
+// No `From`: both types are other crates'.
 fn line_of(replayed: Result<Replayed, Refusal>) -> Line
     ensures { text_of result ≡ printed_of replayed }
 {

@@ -1,4 +1,5 @@
-// Plays the trace on standard input, of which it takes the first 32,768 bytes, and prints a line for each call, or one line for a refused trace.
+// Plays the trace on standard input, of which it takes the first 32,768 bytes, and prints a line for each call, or one line for a
+// refused trace.
 // A read or a write that fails ends it with that error.
 #![tactic(auto)]
 
@@ -9,11 +10,10 @@ ghost use Rattle.pmc330_run.specs.Printed.{outcome_text, printed_of};
 use analog::Refusal;
 use arrayvec::ArrayString;
 use lines::{CallLines, Line};
+use reads::MOST_BYTES;
 use std::fmt::Write as _;
 use std::io;
 use std::io::{Read, Write};
-
-const MOST_BYTES: usize = 32_768;
 
 // The heading has 8 bytes and each call at least 3.
 const MOST_CALLS: usize = (MOST_BYTES - 8) / 3;

@@ -7,6 +7,9 @@ ghost use Rattle.std.specs.Io.KnownBytes.{Consumes, IsAtEnd};
 use std::io;
 use std::io::Read;
 
+// How many bytes of its input a program takes.
+pub const MOST_BYTES: usize = 32_768;
+
 // Reads until the buffer is full or the input ends, and gives how many bytes came.
 // A loop of its own: std's `read_exact` fails where the input is short, and `read_to_end` allocates.
 pub fn read_full<R: Read>(input: &mut R, buf: &mut [u8]) -> io::Result<usize>

@@ -4,6 +4,7 @@
 // A read or a write that fails ends it with that error.
 #![tactic(auto)]
 
+use analog::packed;
 use reads::read_full;
 use std::io;
 use std::io::{Read, Write};
@@ -17,11 +18,7 @@ fn play_one<R: Read, W: Write>(
 ) -> io::Result<()> {
     read_full(input, trace)?;
     read_full(input, answers)?;
-    // as C gets it; the crate that packs it for C is a static library, on which nobody stands
-    let result = match trace::play(trace, answers) {
-        Ok(calls) => 256 * u64::from(calls),
-        Err(refusal) => u64::from(refusal.number()),
-    };
+    let result = packed(trace::play(trace, answers));
     write!(output, "{result:016x}")?;
     output.write_all(answers)
 }

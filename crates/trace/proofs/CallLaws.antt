@@ -7,7 +7,7 @@ use mir.Syntax.{w32}
 use mir.Val.{to_z}
 use lib.IntN.{negsuc}
 use borrow.Author.Tests.{lt-ltb, le-ltb}
-use Rattle.pmc330_model.proofs.Cases.{lt_or_le}
+use Rattle.std.proofs.lemmas.Bool.{cases_lt}
 use Rattle.trace.specs.Grammar.{signed_of}
 
 -- two's complement
@@ -16,4 +16,4 @@ unfolding signed_of
 signed_is n fits =
     ⊎_elim (λ (low : n < 0x8000_0000). rw (lt-ltb n 0x8000_0000 low))
     (λ (high : 0x8000_0000 ≤ n). rw (le-ltb n 0x8000_0000 high, lt-ltb n 0x1_0000_0000 fits) (ap negsuc (omega arith)))
-    (lt_or_le n 0x8000_0000)
+    (cases_lt n 0x8000_0000)

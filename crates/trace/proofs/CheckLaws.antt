@@ -5,13 +5,13 @@ use mathlib.Core.Path.{◌≡◌, refl, sym, ap, ap₂, subst, ◌∙◌}
 use Prim.Native.Nat.{ℕ, ◌+◌, ◌*◌, ◌≤◌, ◌<◌}
 use native.Mathlib.Nat.{zero-add}
 use native.Mathlib.Omega.{arith}
-use lib.Dec.{eqb, leb}
+use lib.Dec.{leb}
 use lib.ListN.{length, take, drop, length-drop, take-append-drop}
+use Rattle.std.proofs.lemmas.Bool.{and_parts}
 use Rattle.std.proofs.lemmas.Slice.Eq.{IsBytesEq, compares_Decides}
 use borrow.Author.Tests.{le-leb, lt-leb, eqb-true, leb-true}
 use Rattle.analog.specs.Answers.{first_no, asked, with_value, answered}
 use Rattle.analog.proofs.AnswerLaws.{ok_first}
-use Rattle.pmc330_model.proofs.Cases.{and_left, and_right}
 use Rattle.trace.specs.Grammar.{length_in, length_of, is_call_tag, is_answer_tag, low_first}
 use Rattle.trace.specs.Fields.{Field, tag_of, is_whole, is_heading, range_of, fixed_bytes, same_bytes, Fields, damaged, whole, later_fields, is_undamaged, listed, fields_after, calls_among, calls_of}
 use Rattle.trace.specs.Play.{answers_follow, field_questions}
@@ -34,13 +34,13 @@ pub record Heading (trace : List ℕ) : Type 0 where
 pub heading_parts : (trace : List ℕ) → is_heading trace ≡ true → Heading trace
 unfolding is_heading
 heading_parts trace e =
-    let three = and_left (is_whole trace && eqb (tag_of trace) 0x00 && same_bytes (take 4 (drop 3 trace)) fixed_bytes) (leb (range_of trace) 3) e in
-    let two = and_left (is_whole trace && eqb (tag_of trace) 0x00) (same_bytes (take 4 (drop 3 trace)) fixed_bytes) three in
+    let three = (and_parts _ _ e).0 in
+    let two = (and_parts _ _ three).0 in
     record {
-      field = and_left (is_whole trace) (eqb (tag_of trace) 0x00) two;
-      tag = eqb-true (tag_of trace) 0x00 (and_right (is_whole trace) (eqb (tag_of trace) 0x00) two);
-      fixed = and_right (is_whole trace && eqb (tag_of trace) 0x00) (same_bytes (take 4 (drop 3 trace)) fixed_bytes) three;
-      range = leb-true (range_of trace) 3 (and_right (is_whole trace && eqb (tag_of trace) 0x00 && same_bytes (take 4 (drop 3 trace)) fixed_bytes) (leb (range_of trace) 3) e);
+      field = (and_parts _ _ two).0;
+      tag = eqb-true (tag_of trace) 0x00 (and_parts _ _ two).1;
+      fixed = (and_parts _ _ three).1;
+      range = leb-true (range_of trace) 3 (and_parts _ _ e).1;
     }
 
 pub heading_length : (trace : List ℕ) → is_heading trace ≡ true → 8 ≤ length trace
@@ -163,7 +163,7 @@ module _ (trace : List ℕ) (none : first_no (field_questions trace) ≡ 0) wher
   met = all_met_lem _ _ _ none
 
   pub is_heading_lem : is_heading trace ≡ true
-  is_heading_lem = and_right (leb (length trace) 16_777_216) (is_heading trace) met.0
+  is_heading_lem = (and_parts _ _ met.0).1
 
   pub follows : answers_follow (tag_of trace) (fields_after trace) ≡ true
   follows = met.2
@@ -173,7 +173,7 @@ module _ (trace : List ℕ) (none : first_no (field_questions trace) ≡ 0) wher
       record {
         heading = is_heading_lem;
         long = heading_length trace is_heading_lem;
-        short = leb-true (length trace) 16_777_216 (and_left (leb (length trace) 16_777_216) (is_heading trace) met.0);
+        short = leb-true (length trace) 16_777_216 (and_parts _ _ met.0).0;
         undamaged = undamaged_is (later_fields trace) met.1;
       }
 

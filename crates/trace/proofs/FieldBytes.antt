@@ -9,10 +9,10 @@ use lib.Dec.{eqb}
 use lib.ListN.{length, take, drop, length-append, length-drop, take-append-drop}
 use lib.Seq.{drop-drop, length-take-le, take_at, drop_at}
 use borrow.Author.Tests.{le-leb, eq-eqb}
-use Rattle.pmc330_model.proofs.Cases.{lt_or_le, and_left, and_right}
+use Rattle.std.proofs.lemmas.Bool.{cases_lt, and_parts}
 use Rattle.trace.specs.Grammar.{length_of, is_call_tag, low_first}
-use Rattle.trace.specs.Fields.{Field, field_bytes, bytes_of_fields, tag_of, size_of, body_of, first_field, after_field, is_whole, damaged, whole, in_front, is_later_tag, is_later_field, fields_in, fields_of, listed, call_fields}
-use Rattle.trace.proofs.FieldLaws.{length_small, whole_parts, front, empty, one_turn, fields_end, fields_step}
+use Rattle.trace.specs.Fields.{Field, Fields, field_bytes, bytes_of_fields, tag_of, size_of, body_of, first_field, after_field, is_whole, damaged, whole, in_front, is_later_tag, is_later_field, fields_in, fields_of, listed, call_fields}
+use Rattle.trace.proofs.FieldLaws.{length_small, whole_parts, empty, one_turn, fields_end, fields_step}
 
 -- ---- fields that can stand in a trace
 
@@ -28,7 +28,7 @@ pub calls_sound : (fields : List Field) → all_sound fields ≡ true → all_so
 unfolding all_sound call_fields
 calls_sound [] e = refl
 calls_sound (field ∷ fields) e =
-    go (is_call_tag field.tag) (and_left (is_sound field) (all_sound fields) e) (calls_sound fields (and_right (is_sound field) (all_sound fields) e))
+    go (is_call_tag field.tag) (and_parts _ _ e).0 (calls_sound fields (and_parts _ _ e).1)
   where
     go : (t : Bool) → is_sound field ≡ true → all_sound (call_fields fields) ≡ true → all_sound (cond t (field ∷ call_fields fields) (call_fields fields)) ≡ true
     go true here later = rw here later
@@ -78,15 +78,15 @@ first_back (a ∷ b ∷ d ∷ rest) field =
 
 first_sound : (bytes : List ℕ) → is_later_field bytes ≡ true → is_sound (first_field bytes) ≡ true
 first_sound bytes later =
-    let parts = whole_parts bytes (and_left (is_whole bytes) _ later) in
+    let parts = whole_parts bytes (and_parts _ _ later).0 in
     let body : length (body_of bytes) ≡ size_of bytes = length-take-le (size_of bytes) (drop 3 bytes) (omega (arith, parts.ends, length-drop 3 bytes)) in
-    ap₂ ◌&&◌ (and_right (is_whole bytes) _ later) (eq-eqb (length (body_of bytes)) (length_of (tag_of bytes)) (body ∙ parts.stated))
+    ap₂ ◌&&◌ (and_parts _ _ later).1 (eq-eqb (length (body_of bytes)) (length_of (tag_of bytes)) (body ∙ parts.stated))
 
 -- a field in front of others
 parsed_front : (bytes : List ℕ) (later : List Field) → is_later_field bytes ≡ true → Parsed (after_field bytes) later → Parsed bytes (first_field bytes ∷ later)
 unfolding bytes_of_fields all_sound
 parsed_front bytes later e rest =
-    let field = and_left (is_whole bytes) _ e in
+    let field = (and_parts _ _ e).0 in
     record {
       few = omega (arith, rest.few, (whole_parts bytes field).ends, length-drop (3 + size_of bytes) bytes);
       sound = ap₂ ◌&&◌ (first_sound bytes e) rest.sound;
@@ -100,20 +100,19 @@ parsed_none (byte ∷ bytes) fields none e = absurd (omega arith)
 
 parsed_in : (n : ℕ) (bytes : List ℕ) (fields : List Field) → fields_in n bytes ≡ whole fields → Parsed bytes fields
 unfolding fields_in
-parsed_in zero bytes fields e = let z : ◌≡◌ {A = ℕ} 0 1 = cc in absurd (omega arith)
-parsed_in (suc n) bytes fields e = ⊎_elim (some (parsed_in n (after_field bytes))) none (lt_or_le 0 (length bytes))
+parsed_in zero bytes fields e = cc
+parsed_in (suc n) bytes fields e = ⊎_elim (some (parsed_in n (after_field bytes))) none (cases_lt 0 (length bytes))
   where
     Rest : Type 0
     Rest = (later : List Field) → fields_in n (after_field bytes) ≡ whole later → Parsed (after_field bytes) later
 
-    turn : Rest → (t : Bool) → is_later_field bytes ≡ t → cond t (in_front (first_field bytes) (fields_in n (after_field bytes))) damaged ≡ whole fields → Parsed bytes fields
-    turn rest true later q =
-        let split = front (first_field bytes) fields (fields_in n (after_field bytes)) q in
-        subst (Parsed bytes) (sym split.same) (parsed_front bytes split.later later (rest split.later split.following))
-    turn rest false later q = let z : ◌≡◌ {A = ℕ} 0 1 = cc in absurd (omega arith)
+    turn : Rest → (t : Bool) → is_later_field bytes ≡ t → (later : Fields) → fields_in n (after_field bytes) ≡ later → cond t (in_front (first_field bytes) later) damaged ≡ whole fields → Parsed bytes fields
+    turn rest true field (whole later) met q = subst (Parsed bytes) (ap listed q) (parsed_front bytes later field (rest later met))
+    turn rest true field damaged met q = cc
+    turn rest false none later met q = cc
 
     some : Rest → 0 < length bytes → Parsed bytes fields
-    some rest h = turn rest (is_later_field bytes) refl (sym (one_turn bytes h n) ∙ e)
+    some rest h = turn rest (is_later_field bytes) refl (fields_in n (after_field bytes)) refl (sym (one_turn bytes h n) ∙ e)
 
     none : length bytes ≤ 0 → Parsed bytes fields
     none h = parsed_none bytes fields (omega arith) (sym (ap listed (sym (empty bytes (omega arith) n) ∙ e)))
@@ -143,10 +142,10 @@ module _ (field : Field) (rest : List ℕ) (sound : is_sound field ≡ true) whe
       rw (
         size_back,
         le-leb 3 (length bytes) (omega (arith, length_is)),
-        and_right (is_later_tag field.tag) (eqb n (length_of field.tag)) sound,
+        (and_parts _ (eqb n (length_of field.tag)) sound).1,
         le-leb (3 + n) (length bytes) (omega (arith, length_is)),
       )
-      (and_left (is_later_tag field.tag) (eqb n (length_of field.tag)) sound)
+      (and_parts _ _ sound).0
 
   field_back : first_field bytes ≡ field
   field_back =
@@ -160,8 +159,8 @@ pub fields_back : (fields : List Field) → all_sound fields ≡ true → fields
 unfolding bytes_of_fields all_sound
 fields_back [] sound = fields_end [] refl
 fields_back (field ∷ fields) sound =
-    let here = and_left (is_sound field) (all_sound fields) sound in
+    let here = (and_parts _ _ sound).0 in
     let rest = bytes_of_fields fields in
     fields_step (bytes field rest here) (omega (arith, length_is field rest here))
     ∙ rw (is_later field rest here) (ap₂ (λ (f : Field) (l : List ℕ). in_front f (fields_of l)) (field_back field rest here) (after_back field rest here))
-    ∙ ap (in_front field) (fields_back fields (and_right (is_sound field) (all_sound fields) sound))
+    ∙ ap (in_front field) (fields_back fields (and_parts _ _ sound).1)

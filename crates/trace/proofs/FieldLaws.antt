@@ -3,23 +3,23 @@ use mathlib.Core.Bool.{Bool, true, false, cond, not, ◌&&◌, ◌||◌, false�
 use mathlib.Core.List.{List, [], ◌∷◌}
 use mathlib.Core.Logic.{⊎_elim}
 use mathlib.Core.Path.{◌≡◌, refl, sym, ap, ap₂, ◌∙◌}
-use Prim.Native.Nat.{ℕ, zero, suc, ◌+◌, ◌-◌, ◌*◌, ◌≤◌, ◌<◌}
-use native.Mathlib.Numerals.{add-one}
+use Prim.Native.Nat.{ℕ, zero, suc, ◌+◌, ◌≤◌, ◌<◌}
 use native.Mathlib.Omega.{arith}
 use lib.Dec.{eqb, ltb, leb}
-use lib.ListN.{length, get_or, drop, length-drop}
-use lib.Seq.{drop-cons, length-take-le}
-use borrow.Author.Tests.{le-leb, lt-leb, eq-eqb, ne_eqb, eqb-true, ltb-true, leb-true}
+use lib.ListN.{length, get_or, take, drop, length-drop}
+use lib.Seq.{length-take-le}
+use borrow.Author.Tests.{le-leb, eq-eqb, ne_eqb, eqb-true, ltb-true, leb-true}
 use Rattle.std.specs.Prelude.{Ok, Err}
 use Rattle.analog.specs.declared.Refusal.TheVariants.{StrayAnswer}
 use Rattle.pmc330_model.specs.Words.{to_bit}
-use Rattle.pmc330_model.proofs.Cases.{lt_or_le, and_left, and_right, values_below, same_below}
+use Rattle.std.proofs.lemmas.Bool.{cases_lt, and_parts}
+use Rattle.pmc330_model.proofs.Cases.{values_below, same_below}
 use Rattle.trace.specs.Grammar.{Kind, Row, is_answer, grammar, length_in, is_kind_in, length_of, is_call_tag, is_answer_tag, low_first, number_at}
-use Rattle.trace.specs.Fields.{Field, tag_of, size_of, body_of, first_field, after_field, is_whole, Fields, damaged, whole, in_front, is_later_tag, is_later_field, fields_in, fields_of, listed, call_fields, call_in, calls_among}
+use Rattle.trace.specs.Fields.{Field, tag_of, size_of, body_of, first_field, after_field, is_whole, Fields, damaged, whole, in_front, is_later_tag, is_later_field, fields_in, fields_of, is_undamaged, listed, call_fields, call_in, calls_among}
 use Rattle.trace.specs.Machine.{SplitsField, none_strays, walked}
 use Rattle.trace.specs.Stated.{byte_of}
 use Rattle.trace.specs.declared.fields.Tag.{Tag}
-use Rattle.trace.specs.declared.fields.Tag.TheVariants.{Read, Write, Input, Advance, Trigger, Reset, Look, Clear, Answer}
+use Rattle.trace.specs.declared.fields.Tag.TheVariants.{Read}
 
 -- ---- the grammar's table
 
@@ -39,15 +39,15 @@ no_row : (is_kind : Kind → Bool) (n : ℕ) (rows : List Row) → rows_below ta
 unfolding is_kind_in
 no_row is_kind n [] below tag beyond = refl
 no_row is_kind n (r ∷ rows) below tag beyond =
-    let less = ltb-true r.tag n (and_left (ltb r.tag n) (rows_below tag_in n rows) below) in
-    rw (ne_eqb tag r.tag (λ e. omega arith)) (no_row is_kind n rows (and_right (ltb r.tag n) (rows_below tag_in n rows) below) tag beyond)
+    let less = ltb-true r.tag n ((and_parts (ltb r.tag n) (rows_below tag_in n rows) below).0) in
+    rw (ne_eqb tag r.tag (λ e. omega arith)) (no_row is_kind n rows ((and_parts (ltb r.tag n) (rows_below tag_in n rows) below).1) tag beyond)
 
 -- a test of tags is a rule of the table: computed for each tag up to the greatest, and false beyond
 by_table :
     (test rule : ℕ → Bool) → values_below test 10 ≡ values_below rule 10 → ((tag : ℕ) → 10 ≤ tag → test tag ≡ false)
     → ((tag : ℕ) → 10 ≤ tag → rule tag ≡ false) → (tag : ℕ) → test tag ≡ rule tag
 by_table test rule same far far' tag =
-    ⊎_elim (λ (h : tag < 10). same_below test rule 10 same tag h) (λ (h : 10 ≤ tag). far tag h ∙ sym (far' tag h)) (lt_or_le tag 10)
+    ⊎_elim (λ (h : tag < 10). same_below test rule 10 same tag h) (λ (h : 10 ≤ tag). far tag h ∙ sym (far' tag h)) (cases_lt tag 10)
 
 answer_beyond : (tag : ℕ) → 10 ≤ tag → is_answer_tag tag ≡ false
 unfolding is_answer_tag
@@ -82,8 +82,8 @@ size_below : (n : ℕ) (rows : List Row) → 0 < n → rows_below size_in n rows
 unfolding length_in
 size_below n [] some below tag = some
 size_below n (r ∷ rows) some below tag =
-    go (eqb tag r.tag) (ltb-true r.size n (and_left (ltb r.size n) (rows_below size_in n rows) below))
-    (size_below n rows some (and_right (ltb r.size n) (rows_below size_in n rows) below) tag)
+    go (eqb tag r.tag) (ltb-true r.size n ((and_parts (ltb r.size n) (rows_below size_in n rows) below).0))
+    (size_below n rows some ((and_parts (ltb r.size n) (rows_below size_in n rows) below).1) tag)
   where
     go : (t : Bool) → r.size < n → length_in rows tag < n → cond t r.size (length_in rows tag) < n
     go true here later = here
@@ -103,26 +103,12 @@ answer_length tag later none = ap length_of (eqb-true tag 9 (answer_test tag ∙
 pub tag_later : (tag : Tag) → is_later_tag (byte_of tag) ≡ true
 unfolding is_call_tag is_answer_tag is_kind_in
 tag_later Read = refl
-tag_later Write = refl
-tag_later Input = refl
-tag_later Advance = refl
-tag_later Trigger = refl
-tag_later Reset = refl
-tag_later Look = refl
-tag_later Clear = refl
-tag_later Answer = refl
+tag_later _ = refl
 
 pub answer_or_call : (tag : Tag) → is_answer_tag (byte_of tag) ≡ not (is_call_tag (byte_of tag))
 unfolding is_call_tag is_answer_tag is_kind_in
 answer_or_call Read = refl
-answer_or_call Write = refl
-answer_or_call Input = refl
-answer_or_call Advance = refl
-answer_or_call Trigger = refl
-answer_or_call Reset = refl
-answer_or_call Look = refl
-answer_or_call Clear = refl
-answer_or_call Answer = refl
+answer_or_call _ = refl
 
 -- a byte that is no tag's may not stand after the heading
 pub no_tag :
@@ -139,33 +125,10 @@ no_tag byte n₁ n₂ n₃ n₄ n₅ n₆ n₇ n₈ n₉ =
 
 -- ---- numbers
 
-number_step : (l : List ℕ) (at k : ℕ) → at < length l → number_at at (suc k) l ≡ get_or l at 0 + 256 * number_at (suc at) k l
-unfolding low_first
-number_step l at k h = rw (drop-cons l at 0 h)
-
-number_none : (l : List ℕ) (at : ℕ) → number_at at 0 l ≡ 0
-unfolding low_first
-number_none l at = refl
-
-number_1 : (l : List ℕ) (at : ℕ) → at < length l → number_at at 1 l ≡ get_or l at 0
-number_1 l at h = omega (arith, number_step l at 0 h, number_none l (suc at))
-
 pub first_byte : (l : List ℕ) → get_or l 0 0 ≡ number_at 0 1 l
 unfolding low_first
 first_byte [] = refl
 first_byte (a ∷ l) = omega arith
-
-pub number_2 : (l : List ℕ) (at : ℕ) → at + 1 < length l → number_at at 2 l ≡ get_or l at 0 + 256 * get_or l (at + 1) 0
-number_2 l at h = rw (add-one at) (omega (arith, number_step l at 1 (omega arith), number_1 l (suc at) (omega arith)))
-
-pub number_4 :
-    (l : List ℕ) (at : ℕ) → at + 3 < length l
-    → number_at at 4 l ≡ get_or l at 0 + 256 * get_or l (at + 1) 0 + 65_536 * get_or l (at + 2) 0 + 16_777_216 * get_or l (at + 3) 0
-number_4 l at h =
-    let second : at + 2 ≡ suc (suc at) = omega arith in
-    let third : at + 3 ≡ suc (suc (suc at)) = omega arith in
-    rw (add-one at, second, third)
-    (omega (arith, number_step l at 3 (omega arith), number_step l (suc at) 2 (omega arith), number_step l (suc (suc at)) 1 (omega arith), number_1 l (suc (suc (suc at))) (omega arith)))
 
 -- ---- the fields of some bytes
 
@@ -191,7 +154,7 @@ enough (suc n) (suc m) bytes h k =
     ∙ ap (step bytes) (enough n m (after_field bytes) (omega (arith, length-drop (3 + size_of bytes) bytes)) (omega (arith, length-drop (3 + size_of bytes) bytes)))
     ∙ sym (one_turn bytes some m))
     (λ (none : length bytes ≤ 0). empty bytes (omega arith) n ∙ sym (empty bytes (omega arith) m))
-    (lt_or_le 0 (length bytes))
+    (cases_lt 0 (length bytes))
 
 pub fields_end : (bytes : List ℕ) → length bytes ≡ 0 → fields_of bytes ≡ whole []
 unfolding fields_of
@@ -223,11 +186,11 @@ pub record WholeField (bytes : List ℕ) : Type 0 where
 pub whole_parts : (bytes : List ℕ) → is_whole bytes ≡ true → WholeField bytes
 unfolding is_whole
 whole_parts bytes field =
-    let front = and_left (leb 3 (length bytes) && eqb (size_of bytes) (length_of (tag_of bytes))) (leb (3 + size_of bytes) (length bytes)) field in
+    let front = (and_parts (leb 3 (length bytes) && eqb (size_of bytes) (length_of (tag_of bytes))) (leb (3 + size_of bytes) (length bytes)) field).0 in
     record {
-      head = leb-true 3 (length bytes) (and_left (leb 3 (length bytes)) _ front);
-      stated = eqb-true _ _ (and_right (leb 3 (length bytes)) _ front);
-      ends = leb-true _ _ (and_right (leb 3 (length bytes) && eqb (size_of bytes) (length_of (tag_of bytes))) _ field);
+      head = leb-true 3 (length bytes) ((and_parts (leb 3 (length bytes)) _ front).0);
+      stated = eqb-true _ _ ((and_parts (leb 3 (length bytes)) _ front).1);
+      ends = leb-true _ _ ((and_parts (leb 3 (length bytes) && eqb (size_of bytes) (length_of (tag_of bytes))) _ field).1);
     }
 
 parts_whole : (bytes : List ℕ) → WholeField bytes → is_whole bytes ≡ true
@@ -241,74 +204,51 @@ no_later_field bytes none = go (is_whole bytes) refl
     go true e = absurd (none (whole_parts bytes e))
     go false e = refl
 
+pub later_some : (bytes : List ℕ) → is_later_field bytes ≡ true → 0 < length bytes
+later_some bytes later = omega (arith, (whole_parts bytes ((and_parts (is_whole bytes) _ later).0)).head)
+
 pub parts_later : (bytes : List ℕ) → WholeField bytes → is_later_tag (tag_of bytes) ≡ true → is_later_field bytes ≡ true
 parts_later bytes p later = rw (parts_whole bytes p, later)
 
--- a later field, by the length that it states
-pub later_is :
-    (bytes : List ℕ) (size : ℕ) → 3 ≤ length bytes → size ≡ size_of bytes → size ≡ length_of (tag_of bytes) → is_later_tag (tag_of bytes) ≡ true
-    → leb size (length bytes - 3) ≡ is_later_field bytes
-later_is bytes size long same stated later =
-    ⊎_elim
-    (λ (short : length bytes - 3 < size). lt-leb size (length bytes - 3) short ∙ sym (no_later_field bytes (λ w. omega (arith, w.ends, same, short))))
-    (λ (fits : size ≤ length bytes - 3).
-    le-leb size (length bytes - 3) fits
-    ∙ sym (parts_later bytes (record { head = long; stated = sym same ∙ stated; ends = omega (arith, same, fits, long) }) later))
-    (lt_or_le (length bytes - 3) size)
+-- its tag and its size stand in its first three bytes
+pub head_tag : (bytes : List ℕ) → get_or (take 3 bytes) 0 0 ≡ tag_of bytes
+head_tag [] = refl
+head_tag (b ∷ bytes) = refl
+
+pub head_size : (bytes : List ℕ) → number_at 1 2 (take 3 bytes) ≡ size_of bytes
+head_size [] = refl
+head_size (a ∷ []) = refl
+head_size (a ∷ b ∷ []) = refl
+head_size (a ∷ b ∷ d ∷ bytes) = refl
 
 -- the body of a whole field, by its tag
 pub body_length : (bytes : List ℕ) → is_later_field bytes ≡ true → length (body_of bytes) ≡ length_of (tag_of bytes)
 body_length bytes later =
-    let p = whole_parts bytes (and_left (is_whole bytes) _ later) in
+    let p = whole_parts bytes ((and_parts (is_whole bytes) _ later).0) in
     length-take-le (size_of bytes) (drop 3 bytes) (omega (arith, p.ends, length-drop 3 bytes)) ∙ p.stated
 
 -- ---- the next field
-
-pub record Front (field : Field) (rest : List Field) (fields : Fields) : Type 0 where
-  pub later : List Field
-  pub same : rest ≡ field ∷ later
-  pub following : fields ≡ whole later
-
-pub front : (field : Field) (rest : List Field) (fields : Fields) → in_front field fields ≡ whole rest → Front field rest fields
-front field rest damaged e = let z : ◌≡◌ {A = ℕ} 0 1 = cc in absurd (omega arith)
-front field rest (whole fields) e = record { later = fields; same = sym (ap listed e); following = refl }
 
 -- the fields where no later field stands first, or one does
 pub no_field : (bytes : List ℕ) → 0 < length bytes → is_later_field bytes ≡ false → fields_of bytes ≡ damaged
 no_field bytes some e = fields_step bytes some ∙ rw e
 
-pub a_field : (bytes : List ℕ) → 0 < length bytes → is_later_field bytes ≡ true → fields_of bytes ≡ in_front (first_field bytes) (fields_of (after_field bytes))
-a_field bytes some e = fields_step bytes some ∙ rw e
+pub a_field : (bytes : List ℕ) → is_later_field bytes ≡ true → fields_of bytes ≡ in_front (first_field bytes) (fields_of (after_field bytes))
+a_field bytes e = fields_step bytes (later_some bytes e) ∙ rw e
 
--- a field that a walk over a checked trace meets
-pub is_field : (bytes : List ℕ) (rest : List Field) → 0 < length bytes → fields_of bytes ≡ whole rest → is_later_field bytes ≡ true
-is_field bytes rest some e = go (is_later_field bytes) refl
-  where
-    go : (t : Bool) → is_later_field bytes ≡ t → t ≡ true
-    go true found = refl
-    go false found =
-        let f : damaged ≡ whole rest = sym (no_field bytes some found) ∙ e in
-        let z : ◌≡◌ {A = ℕ} 0 1 = cc in
-        absurd (omega arith)
-
--- what the walk goes on with
-pub record Next (bytes after : List ℕ) (rest : List Field) : Type 0 where
-  pub later : List Field
-  pub same : rest ≡ first_field bytes ∷ later
-  pub following : fields_of after ≡ whole later
-  pub less : length after < length bytes
-
+-- where none is damaged: the field that comes next, or the end
 pub next_field :
-    (bytes after : List ℕ) (rest : List Field) → 0 < length bytes → fields_of bytes ≡ whole rest → after ≡ after_field bytes → Next bytes after rest
-next_field bytes after rest some fields e =
-    let field = is_field bytes rest some fields in
-    let split = front (first_field bytes) rest (fields_of (after_field bytes)) (sym (a_field bytes some field) ∙ fields) in
-    record {
-      later = split.later;
-      same = split.same;
-      following = ap fields_of e ∙ split.following;
-      less = omega (arith, ap length e, length-drop (3 + size_of bytes) bytes);
-    }
+    (bytes : List ℕ) (tag : ℕ) (body after : List ℕ) → SplitsField bytes tag body after → is_undamaged (fields_of bytes) ≡ true
+    → (listed (fields_of bytes) ≡ record { tag = tag; body = body } ∷ listed (fields_of after)) × (is_undamaged (fields_of after) ≡ true)
+next_field bytes tag body after s e = go (fields_of after) (a_field bytes s.later ∙ λ i. in_front (record { tag = sym s.tag_same i; body = sym s.body_same i }) (fields_of (sym s.after_same i)))
+  where
+    go : (later : Fields) → fields_of bytes ≡ in_front (record { tag = tag; body = body }) later → (listed (fields_of bytes) ≡ record { tag = tag; body = body } ∷ listed later) × (is_undamaged later ≡ true)
+    go damaged f = absurd (false≢true (sym (ap is_undamaged f) ∙ e))
+    go (whole fields) f = (ap listed f, refl)
+
+pub no_next : (bytes : List ℕ) → is_later_field bytes ≡ false → is_undamaged (fields_of bytes) ≡ true → listed (fields_of bytes) ≡ []
+no_next [] none e = ap listed (fields_end [] refl)
+no_next (b ∷ bytes) none e = absurd (false≢true (sym (ap is_undamaged (no_field (b ∷ bytes) (omega arith) none)) ∙ e))
 
 -- the calls of a field and those after it
 pub call_front : (field : Field) (later : List Field) → is_call_tag field.tag ≡ true → calls_among (field ∷ later) ≡ call_in field ∷ calls_among later
@@ -346,11 +286,11 @@ walked_front calls strays after_call field (whole fields) =
     ap₂ (λ (t : Bool) (m : ℕ). cond t (Err StrayAnswer) (Ok m)) (strays_front strays (is_answer_tag field.tag) after_call (none_strays (is_call_tag field.tag) fields)) made
 
 pub walk_turn :
-    (calls : ℕ) (strays after_call : Bool) (bytes : List ℕ) (tag : ℕ) (body after : List ℕ) → 0 < length bytes → SplitsField bytes tag body after
+    (calls : ℕ) (strays after_call : Bool) (bytes : List ℕ) (tag : ℕ) (body after : List ℕ) → SplitsField bytes tag body after
     → walked calls strays after_call (fields_of bytes)
     ≡ walked (calls + to_bit (is_call_tag tag)) (strays || is_answer_tag tag && not after_call) (is_call_tag tag) (fields_of after)
-walk_turn calls strays after_call bytes tag body after some s =
-    ap (walked calls strays after_call) (a_field bytes some s.later)
+walk_turn calls strays after_call bytes tag body after s =
+    ap (walked calls strays after_call) (a_field bytes s.later)
     ∙ walked_front calls strays after_call (first_field bytes) (fields_of (after_field bytes))
     ∙ sym (ap₂ (λ (tag : ℕ) (after : List ℕ). walked (calls + to_bit (is_call_tag tag)) (strays || is_answer_tag tag && not after_call) (is_call_tag tag) (fields_of after)) s.tag_same s.after_same)
 

@@ -4,7 +4,6 @@ pub mod CheckLaws
 pub mod CallLaws
 pub mod PlayLaws
 pub mod ReplayLaws
-pub mod RunLaws
 pub mod Theorems
 pub mod PassedOver
 pub mod RecordedLaws

@@ -12,17 +12,17 @@ use Rattle.std.specs.Prelude.{Result, Ok, Err, ⊤}
 use Rattle.analog.specs.Answers.{Answer, first_no, asked}
 use Rattle.analog.specs.declared.Refusal.{Refusal}
 use Rattle.analog.specs.declared.Refusal.TheVariants.{BadHeading, BadField, ShortBuffer, StrayAnswer}
-use Rattle.analog.proofs.AnswerLaws.{number_some, none_asked, ok_first, err_first, answered_ok, answered_err}
+use Rattle.analog.proofs.RefusalLaws.{number_some}
+use Rattle.analog.proofs.AnswerLaws.{none_asked, ok_first, err_first, answered_ok, answered_err}
 use Rattle.pmc330_model.specs.Calls.{Call}
 use Rattle.pmc330_model.specs.Board.{board_call, new_board, answers_from, answers_of}
 use Rattle.pmc330_model.specs.Lent.{open_call}
 use Rattle.pmc330_model.specs.declared.Board.{Board}
 use Rattle.pmc330_model.specs.declared.Reply.{Reply}
 use Rattle.trace.specs.Grammar.{is_call_tag}
-use Rattle.trace.specs.Fields.{Field, tag_of, first_field, after_field, is_heading, range_of, whole, fields_of, later_fields, is_undamaged, listed, fields_after, call_fields, call_in, calls_among, calls_of}
+use Rattle.trace.specs.Fields.{Field, tag_of, is_heading, range_of, later_fields, is_undamaged, fields_after, call_fields, call_in, calls_among, calls_of}
 use Rattle.trace.specs.Play.{answers_follow, field_questions, trace_questions, played, trace_number, answer_bytes, bytes_of, in_buffer, played_buffer}
-use Rattle.trace.specs.Machine.{Walkable}
-use Rattle.trace.proofs.FieldLaws.{Next, next_field, call_front, other_front, fields_end}
+use Rattle.trace.proofs.FieldLaws.{call_front, other_front}
 use Rattle.trace.proofs.CheckLaws.{heading_parts}
 
 -- ---- the answers in a buffer
@@ -59,22 +59,18 @@ module _ (xs five : List ℕ) (done : ℕ) (size : length five ≡ 5) (room : do
 
 -- ---- a turn of the player
 
--- where the player stands, with some bytes of the trace left: what is written, with what the calls in these will write, is what
+-- where the player stands, with some fields of the trace left: what is written, with what the calls in these will write, is what
 -- the whole trace writes
-pub record Playing (trace buffer : List ℕ) (start : Board) (answers : List ℕ) (board : Board) (bytes : List ℕ) (done : ℕ) : Type 0 where
-  pub rest : List Field
-  pub fields : fields_of bytes ≡ whole rest
+pub record Playing (trace buffer : List ℕ) (start : Board) (answers : List ℕ) (board : Board) (rest : List Field) (done : ℕ) : Type 0 where
   pub room : done + 5 * length (calls_among rest) ≤ length answers
   pub same : length answers ≡ length buffer
   pub written : take done answers ++ in_buffer (answers_from board (calls_among rest)) (drop done answers) ≡ in_buffer (answers_from start (calls_of trace)) buffer
 
 pub opening :
-    (trace buffer : List ℕ) (start : Board) → Walkable trace → 5 * length (calls_of trace) ≤ length buffer
-    → Playing trace buffer start buffer start (drop 8 trace) 0
-opening trace buffer start w fits =
+    (trace buffer : List ℕ) (start : Board) → 5 * length (calls_of trace) ≤ length buffer
+    → Playing trace buffer start buffer start (fields_after trace) 0
+opening trace buffer start fits =
     record {
-      rest = fields_after trace;
-      fields = w.undamaged;
       room = omega (arith, fits);
       same = refl;
       written = refl;
@@ -85,41 +81,34 @@ abbrev pub rest_from : (answers : List ℕ) (done : ℕ) → List ℕ
 rest_from answers done = take (length answers - done) (drop done answers)
 
 -- one turn of the loop at a call, by what its calls give
-pub record Turn (trace buffer : List ℕ) (start : Board) (answers : List ℕ) (board : Board) (bytes after : List ℕ) (done : ℕ) : Type 0 where
+pub record Turn (trace buffer : List ℕ) (start : Board) (answers : List ℕ) (board : Board) (field : Field) (rest : List Field) (done : ℕ) : Type 0 where
   pub room : done + 5 ≤ length answers
   pub left : 5 ≤ length (rest_from answers done)
   pub next :
-      (reply : Reply) (ys : List ℕ) → reply ≡ board_call board (call_in (first_field bytes))
+      (reply : Reply) (ys : List ℕ) → reply ≡ board_call board (call_in field)
       → ys ≡ answer_bytes reply.answer ++ drop 5 (rest_from answers done)
-      → Playing trace buffer start (take done answers ++ (ys ++ drop (length answers - done) (drop done answers))) reply.board after (done + 5)
+      → Playing trace buffer start (take done answers ++ (ys ++ drop (length answers - done) (drop done answers))) reply.board rest (done + 5)
 
 module _
-    (trace buffer : List ℕ) (start : Board) (answers : List ℕ) (board : Board) (bytes : List ℕ) (done : ℕ)
-    (p : Playing trace buffer start answers board bytes done) (some : 0 < length bytes)
-    (after : List ℕ) (e : after ≡ after_field bytes)
+    (trace buffer : List ℕ) (start : Board) (answers : List ℕ) (board : Board) (field : Field) (rest : List Field) (done : ℕ)
+    (p : Playing trace buffer start answers board (field ∷ rest) done)
   where
-    pub field_met : Next bytes after p.rest
-    field_met = next_field bytes after p.rest some p.fields e
-
     -- a recorded answer is passed over
-    pub passes : is_call_tag (tag_of bytes) ≡ false → Playing trace buffer start answers board after done
+    pub passes : is_call_tag field.tag ≡ false → Playing trace buffer start answers board rest done
     passes other =
-        let n = field_met in
-        let calls : calls_among p.rest ≡ calls_among n.later = ap calls_among n.same ∙ other_front (first_field bytes) n.later other in
+        let calls : calls_among (field ∷ rest) ≡ calls_among rest = other_front field rest other in
         record {
-          rest = n.later;
-          fields = n.following;
           room = omega (arith, p.room, ap length calls);
           same = p.same;
           written = ap (λ (made : List Call). take done answers ++ in_buffer (answers_from board made) (drop done answers)) (sym calls) ∙ p.written;
         }
 
-    module _ (made : is_call_tag (tag_of bytes) ≡ true) where
+    module _ (made : is_call_tag field.tag ≡ true) where
       abbrev later : List Call
-      later = calls_among field_met.later
+      later = calls_among rest
 
-      calls : calls_among p.rest ≡ call_in (first_field bytes) ∷ later
-      calls = ap calls_among field_met.same ∙ call_front (first_field bytes) field_met.later made
+      calls : calls_among (field ∷ rest) ≡ call_in field ∷ later
+      calls = call_front field rest made
 
       turn_room : done + 5 ≤ length answers
       turn_room = omega (arith, p.room, ap length calls)
@@ -131,14 +120,12 @@ module _
       tail_room = rw (tail_is) (omega (arith, length-drop done answers, turn_room))
 
       goes_on :
-          (reply : Reply) (ys : List ℕ) → reply ≡ board_call board (call_in (first_field bytes)) → ys ≡ answer_bytes reply.answer ++ drop 5 (rest_from answers done)
-          → Playing trace buffer start (take done answers ++ (ys ++ drop (length answers - done) (drop done answers))) reply.board after (done + 5)
+          (reply : Reply) (ys : List ℕ) → reply ≡ board_call board (call_in field) → ys ≡ answer_bytes reply.answer ++ drop 5 (rest_from answers done)
+          → Playing trace buffer start (take done answers ++ (ys ++ drop (length answers - done) (drop done answers))) reply.board rest (done + 5)
       unfolding answers_from
       goes_on reply ys r y =
-          subst (λ (l : List ℕ). Playing trace buffer start l reply.board after (done + 5)) (sym back)
+          subst (λ (l : List ℕ). Playing trace buffer start l reply.board rest (done + 5)) (sym back)
           (record {
-            rest = field_met.later;
-            fields = field_met.following;
             room = omega (arith, p.room, ap length calls, after_length answers five done refl turn_room);
             same = after_length answers five done refl turn_room ∙ p.same;
             written =
@@ -162,22 +149,15 @@ module _
               ∙ ap (λ (l : List ℕ). take done answers ++ l) (append-nil (five ++ drop 5 (drop done answers)))
               ∙ sym (append_assoc (take done answers) five (drop 5 (drop done answers)))
 
-      pub turn : Turn trace buffer start answers board bytes after done
+      pub turn : Turn trace buffer start answers board field rest done
       turn = record { room = turn_room; left = tail_room; next = goes_on }
 
 -- at the end
 pub over :
-    (trace buffer : List ℕ) (start : Board) (answers : List ℕ) (board : Board) (bytes : List ℕ) (done : ℕ)
-    → Playing trace buffer start answers board bytes done → length bytes ≡ 0
-    → answers ≡ in_buffer (answers_from start (calls_of trace)) buffer
+    (trace buffer : List ℕ) (start : Board) (answers : List ℕ) (board : Board) (done : ℕ)
+    → Playing trace buffer start answers board [] done → answers ≡ in_buffer (answers_from start (calls_of trace)) buffer
 unfolding answers_from in_buffer bytes_of call_fields
-over trace buffer start answers board bytes done p end =
-    sym (take-append-drop done answers)
-    ∙ ap (λ (fields : List Field). take done answers ++ in_buffer (answers_from board (calls_among fields)) (drop done answers)) none
-    ∙ p.written
-  where
-    none : [] ≡ p.rest
-    none = ap listed (sym (fields_end bytes end) ∙ p.fields)
+over trace buffer start answers board done p = sym (take-append-drop done answers) ∙ p.written
 
 -- ---- the number of a trace
 

@@ -9,10 +9,10 @@ use native.Mathlib.Numerals.{add-one}
 use native.Mathlib.Omega.{arith}
 use lib.ListN.{length, get_or, take, drop, length-append}
 use lib.Seq.{take-append_seam, get_or-append_seam, get_or-append-add, take-add}
+use Rattle.std.proofs.lemmas.Bool.{cases_lt, and_parts}
 use Rattle.pmc330_model.specs.Calls.{Call}
 use Rattle.pmc330_model.specs.Logbook.{Logbook, logged, logged_answer, logged_from, logged_answers_from, logbook_of, logbook_answers, new_logbook}
 use Rattle.pmc330_model.specs.Words.{to_bit}
-use Rattle.pmc330_model.proofs.Cases.{and_left, and_right, lt_or_le}
 use Rattle.trace.specs.Grammar.{is_call_tag, is_answer_tag}
 use Rattle.trace.specs.Fields.{Field, is_later_tag, call_fields, answer_fields, call_in, calls_among}
 use Rattle.trace.specs.Play.{answers_follow}
@@ -20,7 +20,7 @@ use Rattle.trace.specs.Replay.{is_equal, Comparison, answer_to, comparisons_from
 use Rattle.trace.specs.Sentences.{RecordedCall, index_of, is_as_recorded, AllAgree, FirstDiffers}
 use Rattle.trace.specs.declared.Replayed.TheVariants.{Differs}
 use Rattle.trace.proofs.FieldLaws.{answer_else, answer_no_call, call_no_answer, calls_counted}
-use Rattle.trace.proofs.FieldBytes.{is_sound, all_sound}
+use Rattle.trace.proofs.FieldBytes.{all_sound}
 use Rattle.std.specs.Prelude.{Ok}
 use Rattle.analog.specs.Answers.{Answer}
 
@@ -74,11 +74,11 @@ module _ (answers : List Answer) where
   unfolding comparisons_from answer_fields all_sound
   comparisons_counted index [] sound = refl
   comparisons_counted index (x ∷ xs) sound =
-      let rest = and_right (is_sound x) (all_sound xs) sound in
+      let rest = (and_parts _ _ sound).1 in
       go (is_call_tag x.tag) refl (is_answer_tag x.tag) refl (comparisons_counted (index + 1) xs rest) (comparisons_counted index xs rest)
     where
       later : is_later_tag x.tag ≡ true
-      later = and_left (is_later_tag x.tag) _ (and_left (is_sound x) (all_sound xs) sound)
+      later = (and_parts _ _ (and_parts _ _ sound).0).0
 
       go :
           (t : Bool) → is_call_tag x.tag ≡ t → (s : Bool) → is_answer_tag x.tag ≡ s
@@ -102,8 +102,8 @@ unfolding first_difference
 difference_after count [] ys equal = ap (λ (n : ℕ). first_difference n ys) (sym (add-zero count))
 difference_after count (x ∷ xs) ys equal =
     let same : count + 1 + length xs ≡ count + suc (length xs) = omega arith in
-    rw (and_left (is_equal x.answer x.body) (all_equal xs) equal)
-    (difference_after (count + 1) xs ys (and_right (is_equal x.answer x.body) (all_equal xs) equal)
+    rw (and_parts (is_equal x.answer x.body) _ equal).0
+    (difference_after (count + 1) xs ys (and_parts _ _ equal).1
     ∙ ap (λ (n : ℕ). first_difference n ys) same)
 
 -- ---- the answer of a recorded call
@@ -175,16 +175,16 @@ module _ (range : ℕ) (fields : List Field) where
     all_equal_lem done [] rest before place ends follow sound most = refl
     all_equal_lem done (field ∷ part) rest before place ends follow sound most =
         let place' = place ∙ sym (append_assoc done (field ∷ []) (part ++ rest)) in
-        let follow' = and_right (cond (is_answer_tag field.tag) (is_call_tag before) true) (answers_follow field.tag (part ++ rest)) follow in
+        let follow' = (and_parts _ _ follow).1 in
         let most' : length (calls_among (done ++ (field ∷ []))) + length (calls_among part) ≤ limit = omega (arith, calls_end done field, calls_counted field part, most) in
         go (is_call_tag field.tag) refl (calls_end done field)
-        (all_equal_lem (done ++ (field ∷ [])) part rest field.tag place' (λ made. record { front = done; call = field; same = refl; is_call = made }) follow' (and_right (is_sound field) (all_sound part) sound) most')
+        (all_equal_lem (done ++ (field ∷ [])) part rest field.tag place' (λ made. record { front = done; call = field; same = refl; is_call = made }) follow' (and_parts _ _ sound).1 most')
       where
         n : ℕ
         n = length (calls_among done)
 
         later : is_later_tag field.tag ≡ true
-        later = and_left (is_later_tag field.tag) _ (and_left (is_sound field) (all_sound part) sound)
+        later = (and_parts _ _ (and_parts _ _ sound).0).0
 
         go :
             (t : Bool) → is_call_tag field.tag ≡ t → length (calls_among (done ++ (field ∷ []))) ≡ n + to_bit t
@@ -194,7 +194,7 @@ module _ (range : ℕ) (fields : List Field) where
         go false other index rest' =
             let answer = answer_else field.tag later other in
             let after_call : is_call_tag before ≡ true =
-            sym (ap (λ (t : Bool). cond t (is_call_tag before) true) answer) ∙ and_left (cond (is_answer_tag field.tag) (is_call_tag before) true) (answers_follow field.tag (part ++ rest)) follow in
+            sym (ap (λ (t : Bool). cond t (is_call_tag before) true) answer) ∙ (and_parts _ _ follow).0 in
             ap₂ ◌&&◌ (is_equal_lem done (part ++ rest) field place (ends after_call) answer (omega (arith, most)))
             (sym (ap (λ (k : ℕ). all_equal (comparisons_from k answers part)) (index ∙ add-zero n)) ∙ rest')
 
@@ -210,7 +210,7 @@ pub sound_before : (xs ys : List Field) → all_sound (xs ++ ys) ≡ true → al
 unfolding all_sound
 sound_before [] ys e = refl
 sound_before (x ∷ xs) ys e =
-    ap₂ ◌&&◌ (and_left (is_sound x) (all_sound (xs ++ ys)) e) (sound_before xs ys (and_right (is_sound x) (all_sound (xs ++ ys)) e))
+    ap₂ ◌&&◌ (and_parts _ _ e).0 (sound_before xs ys (and_parts _ _ e).1)
 
 -- ---- the search for the first that differs
 
@@ -258,7 +258,7 @@ module _ (range : ℕ) (fields : List Field) where
   -- one field more: nothing new ends there, or what does is equal
   one_more : (n : ℕ) → EqualIn n → ((r : RecordedCall fields) → length r.before + 2 ≡ n + 1 → is_as_recorded range r ≡ true) → EqualIn (n + 1)
   one_more n equal last r most =
-      ⊎_elim (λ (h : length r.before + 2 < n + 1). equal r (omega arith)) (λ (h : n + 1 ≤ length r.before + 2). last r (omega arith)) (lt_or_le (length r.before + 2) (n + 1))
+      ⊎_elim (λ (h : length r.before + 2 < n + 1). equal r (omega arith)) (λ (h : n + 1 ≤ length r.before + 2). last r (omega arith)) (cases_lt (length r.before + 2) (n + 1))
 
   module _ (done later : List Field) (field : Field) (place : fields ≡ done ++ (field ∷ later)) where
     field_is : get_or fields (length done) no_field ≡ field
@@ -293,7 +293,7 @@ module _ (range : ℕ) (fields : List Field) where
             equal_before = λ earlier less. equal earlier (⊎_elim
                 (λ (h : length done < length earlier.before + 2). absurd (omega (arith, index_grows this earlier (omega (arith, this_length)))))
                 (λ (h : length earlier.before + 2 ≤ length done). h)
-                (lt_or_le (length done) (length earlier.before + 2)));
+                (cases_lt (length done) (length earlier.before + 2)));
           }
 
   pub search_from :
@@ -307,8 +307,8 @@ module _ (range : ℕ) (fields : List Field) where
       (λ (next : EqualIn (length done + 1)).
       search_from (done ++ (field ∷ [])) part field.tag (place ∙ sym (append_assoc done (field ∷ []) part))
       (λ made. record { front = done; call = field; same = refl; is_call = made })
-      (and_right (cond (is_answer_tag field.tag) (is_call_tag before) true) (answers_follow field.tag part) follow)
-      (and_right (is_sound field) (all_sound part) sound)
+      (and_parts _ _ follow).1
+      (and_parts _ _ sound).1
       (subst EqualIn (sym (length-append done (field ∷ []))) next))
     where
       Rest : Type 0
@@ -321,8 +321,8 @@ module _ (range : ℕ) (fields : List Field) where
       go : (t : Bool) → is_call_tag field.tag ≡ t → Rest → AllAgree range fields ⊎ FirstDiffers range fields
       go true call rest = rest (after_call done part field place call equal)
       go false other rest =
-          let later = and_left (is_later_tag field.tag) _ (and_left (is_sound field) (all_sound part) sound) in
+          let later = (and_parts _ _ (and_parts _ _ sound).0).0 in
           let answer = answer_else field.tag later other in
           let called : is_call_tag before ≡ true =
-          sym (ap (λ (t : Bool). cond t (is_call_tag before) true) answer) ∙ and_left (cond (is_answer_tag field.tag) (is_call_tag before) true) (answers_follow field.tag part) follow in
+          sym (ap (λ (t : Bool). cond t (is_call_tag before) true) answer) ∙ (and_parts _ _ follow).0 in
           compare (ends called) answer (is_as_recorded range (this done part field place (ends called) answer)) refl rest

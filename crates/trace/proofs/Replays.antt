@@ -12,8 +12,8 @@ use borrow.Author.Tests.{ne_eqb}
 use Rattle.std.specs.Prelude.{Result, Ok, Err}
 use Rattle.analog.specs.Answers.{number_of_refusal, first_no, all_met, Answer}
 use Rattle.analog.specs.declared.Refusal.{Refusal}
-use Rattle.analog.specs.declared.Refusal.TheVariants.{BadWidth, BadOffset, Unmapped, BadValue, BadDirection, Busy, BadCode, NoScan, BadChannels, BadInterval, BadChannel, BadVoltage, BadTicks, BadRange, BadCalibration, BadCodes, BadSums, BadHeading, BadField, ShortBuffer, BadWindow, BadSlot, StrayAnswer, BadSeed, NoRoom}
-use Rattle.analog.proofs.AnswerLaws.{number_some, Outcome, met, unmet, outcome, none_first}
+use Rattle.analog.proofs.RefusalLaws.{number_some, number_small, same_refusal}
+use Rattle.analog.proofs.AnswerLaws.{Outcome, met, unmet, outcome, none_first}
 use Rattle.pmc330_model.specs.Board.{answers_of}
 use Rattle.pmc330_model.proofs.Theorems.{answers_agree}
 use Rattle.trace.specs.Grammar.{is_call_tag}
@@ -69,33 +69,6 @@ differs_small answers (field ∷ fields) index count most i n =
         (record { index = index; answer = answer_to answers index; body = field.body } ∷ comparisons_from index answers fields)))
     go true made compared = made
     go false made compared = compare (is_equal (answer_to answers index) field.body) compared
-
-number_small : (refusal : Refusal) → number_of_refusal refusal < 256
-number_small BadWidth = omega arith
-number_small BadOffset = omega arith
-number_small Unmapped = omega arith
-number_small BadValue = omega arith
-number_small BadDirection = omega arith
-number_small Busy = omega arith
-number_small BadCode = omega arith
-number_small NoScan = omega arith
-number_small BadChannels = omega arith
-number_small BadInterval = omega arith
-number_small BadChannel = omega arith
-number_small BadVoltage = omega arith
-number_small BadTicks = omega arith
-number_small BadRange = omega arith
-number_small BadCalibration = omega arith
-number_small BadCodes = omega arith
-number_small BadSums = omega arith
-number_small BadHeading = omega arith
-number_small BadField = omega arith
-number_small ShortBuffer = omega arith
-number_small BadWindow = omega arith
-number_small BadSlot = omega arith
-number_small StrayAnswer = omega arith
-number_small BadSeed = omega arith
-number_small NoRoom = omega arith
 
 -- a field has three bytes or more, and a trace at most 2^24
 pub replay_small : (trace : List ℕ) → Small 5_592_405 (replayed trace)
@@ -182,63 +155,6 @@ replays_answered trace all = record { either = which_holds trace all; agree = ag
 
 -- ---- what C gets
 
--- a number is one refusal's
-refusal_of : (number : ℕ) → Refusal
-refusal_of number =
-    cond (eqb number 1) BadWidth
-    (cond (eqb number 2) BadOffset
-    (cond (eqb number 3) Unmapped
-    (cond (eqb number 4) BadValue
-    (cond (eqb number 5) BadDirection
-    (cond (eqb number 6) Busy
-    (cond (eqb number 7) BadCode
-    (cond (eqb number 8) NoScan
-    (cond (eqb number 9) BadChannels
-    (cond (eqb number 10) BadInterval
-    (cond (eqb number 11) BadChannel
-    (cond (eqb number 12) BadVoltage
-    (cond (eqb number 13) BadTicks
-    (cond (eqb number 14) BadRange
-    (cond (eqb number 15) BadCalibration
-    (cond (eqb number 16) BadCodes
-    (cond (eqb number 17) BadSums
-    (cond (eqb number 18) BadHeading
-    (cond (eqb number 19) BadField
-    (cond (eqb number 20) ShortBuffer
-    (cond (eqb number 21) BadWindow
-    (cond (eqb number 22) BadSlot (cond (eqb number 26) StrayAnswer (cond (eqb number 27) BadSeed NoRoom)))))))))))))))))))))))
-
-refusal_back : (refusal : Refusal) → refusal_of (number_of_refusal refusal) ≡ refusal
-unfolding refusal_of
-refusal_back BadWidth = refl
-refusal_back BadOffset = refl
-refusal_back Unmapped = refl
-refusal_back BadValue = refl
-refusal_back BadDirection = refl
-refusal_back Busy = refl
-refusal_back BadCode = refl
-refusal_back NoScan = refl
-refusal_back BadChannels = refl
-refusal_back BadInterval = refl
-refusal_back BadChannel = refl
-refusal_back BadVoltage = refl
-refusal_back BadTicks = refl
-refusal_back BadRange = refl
-refusal_back BadCalibration = refl
-refusal_back BadCodes = refl
-refusal_back BadSums = refl
-refusal_back BadHeading = refl
-refusal_back BadField = refl
-refusal_back ShortBuffer = refl
-refusal_back BadWindow = refl
-refusal_back BadSlot = refl
-refusal_back StrayAnswer = refl
-refusal_back BadSeed = refl
-refusal_back NoRoom = refl
-
-same_refusal : (a b : Refusal) → number_of_refusal a ≡ number_of_refusal b → a ≡ b
-same_refusal a b e = sym (refusal_back a) ∙ ap refusal_of e ∙ refusal_back b
-
 -- which case a replay is
 record ReadBack (replay : Result Replayed Refusal) : Type 0 where
   numbered : 0 < replay_number replay → (refusal : Refusal) × (replay_number replay ≡ number_of_refusal refusal)
@@ -280,7 +196,7 @@ which_case trace = go (outcome (field_questions trace))
     found all (inr first) = subst ReadBack (sym (differing trace all first)) (differs_is (index_of first.recorded) (count_to first.recorded) (omega arith))
 
     go : Outcome (field_questions trace) → ReadBack (replayed trace)
-    go (met all none ok) = found all (which_holds trace all)
+    go (met all _ _) = found all (which_holds trace all)
     go (unmet refusal some number err) = subst ReadBack (sym (replay_refused trace refusal err)) (refused_is refusal)
 
 pub replays_packed : EveryPackedReplay

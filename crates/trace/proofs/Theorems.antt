@@ -4,12 +4,13 @@ use mathlib.Core.List.{List}
 use mathlib.Core.Path.{◌≡◌, sym, ap, ◌∙◌}
 use Prim.Native.Nat.{ℕ}
 use native.Mathlib.Omega.{arith}
-use lib.Dec.{eqb, leb}
+use lib.Dec.{eqb}
 use borrow.Author.Tests.{ne_eqb}
 use lib.ListN.{length}
+use Rattle.std.proofs.lemmas.Bool.{and_parts}
 use Rattle.analog.specs.Answers.{Answer, number_of_refusal, first_no, all_met, asked, with_value, answered, packed}
-use Rattle.analog.proofs.AnswerLaws.{number_some, Outcome, met, unmet, outcome, none_first, some_first, none_asked}
-use Rattle.pmc330_model.proofs.Cases.{and_left, and_right}
+use Rattle.analog.proofs.RefusalLaws.{number_some}
+use Rattle.analog.proofs.AnswerLaws.{Outcome, met, unmet, outcome, none_first, some_first, none_asked}
 use Rattle.pmc330_model.proofs.Theorems.{answers_agree}
 use Rattle.trace.specs.Fields.{is_heading, range_of, fields_of, calls_of}
 use Rattle.trace.specs.Play.{trace_questions, played, trace_number, calls_answered, played_result, played_buffer, in_buffer}
@@ -31,7 +32,7 @@ traces_refused trace buffer failed =
 -- question 18 is the first
 accepted_heading : (trace : List ℕ) (room : ℕ) → all_met (trace_questions trace room) ≡ true → is_heading trace ≡ true
 unfolding all_met
-accepted_heading trace room all = and_right (leb (length trace) 16_777_216) (is_heading trace) (and_left _ _ all)
+accepted_heading trace room all = (and_parts _ _ (and_parts _ _ all).0).1
 
 pub traces_accepted : EveryAcceptedTrace
 unfolding trace_number calls_answered

@@ -5,3 +5,4 @@ pub mod Replay
 pub mod Sentences
 pub mod Stated
 pub mod Machine
+pub mod Walks

@@ -1,18 +1,12 @@
 -- How the code computes: what its private functions promise. Nothing that a caller may cite stands here.
-use Rattle.std.specs.Prelude.{ℕ, ◌+◌, ◌*◌, ◌≤◌, Bool, true, cond, not, ◌&&◌, ◌||◌, List, [], ◌∷◌, ◌≡◌, length, Ok, Err}
+use Rattle.std.specs.Prelude.{ℕ, ◌+◌, ◌≤◌, Bool, true, cond, not, ◌&&◌, ◌||◌, List, [], ◌∷◌, ◌≡◌, length, Ok, Err}
 use Rattle.analog.specs.Answers.{Answer, answered}
 use Rattle.analog.specs.declared.Refusal.TheVariants.{BadField, StrayAnswer}
-use Rattle.pmc330_model.specs.Board.{answers_of}
 use Rattle.trace.specs.Grammar.{is_call_tag, is_answer_tag, call_of}
-use Rattle.trace.specs.Fields.{Field, Fields, damaged, whole, tag_of, body_of, after_field, is_heading, range_of, is_later_field, later_fields, fields_after, calls_among, calls_of}
-use Rattle.trace.specs.Play.{field_questions, in_buffer}
-use Rattle.trace.specs.Replay.{comparisons_from, first_difference}
+use Rattle.trace.specs.Fields.{Field, Fields, damaged, whole, tag_of, body_of, after_field, is_heading, is_later_field, later_fields, fields_after, calls_among, calls_of}
+use Rattle.trace.specs.Play.{field_questions}
 use Rattle.trace.specs.Stated.{call_stated}
 use Rattle.trace.specs.declared.calls.Call.{Call}
-use Rattle.trace.specs.declared.Run.{Run}
-use Rattle.trace.specs.declared.Run.TheVariants.{Play, Replay}
-use Rattle.trace.specs.declared.Replayed.{Replayed}
-use Rattle.trace.specs.declared.Replayed.TheVariants.{Agree}
 
 -- a later field stands first in some bytes: its tag and its body, and the bytes after it
 pub record SplitsField (bytes : List ℕ) (tag : ℕ) (body after : List ℕ) : Type 0 where
@@ -42,24 +36,9 @@ walked calls strays after_call (whole fields) =
 unfoldable pub check_of : (trace : List ℕ) → Answer
 check_of trace = answered (field_questions trace) (length (calls_of trace))
 
--- what a walk over a checked trace needs
+-- what a checked trace has
 pub record Walkable (trace : List ℕ) : Type 0 where
   pub heading : is_heading trace ≡ true
   pub long : 8 ≤ length trace
   pub short : length trace ≤ 16_777_216
   pub undamaged : later_fields trace ≡ whole (fields_after trace)
-
--- and a run over it: a play needs a buffer with room for the answers
-pub record Runnable (trace : List ℕ) (run : Run) (room : ℕ) : Type 0 where
-  pub walkable : Walkable trace
-  pub fits : run ≡ Play → 5 * length (calls_of trace) ≤ room
-
--- what a run on a new board finds: a replay the first difference, a play nothing, since it compares none
-abbrev pub found_by : Run → (trace : List ℕ) → Replayed
-found_by Play trace = Agree 0
-found_by Replay trace = first_difference 0 (comparisons_from 0 (answers_of (range_of trace) (calls_of trace)) (fields_after trace))
-
--- what it leaves of the buffer: a replay puts nothing there
-abbrev pub put_by : Run → (trace buffer : List ℕ) → List ℕ
-put_by Play trace buffer = in_buffer (answers_of (range_of trace) (calls_of trace)) buffer
-put_by Replay trace buffer = buffer

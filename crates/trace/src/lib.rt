@@ -4,13 +4,17 @@
 mod calls;
 mod fields;
 
-ghost use Rattle.std.specs.Prelude.{◌≡◌, length};
-ghost use Rattle.trace.specs.Play.{played, played_buffer};
-ghost use Rattle.trace.specs.Replay.{replayed};
-ghost use Rattle.trace.specs.Machine.{Runnable, found_by, put_by};
+ghost use Rattle.std.specs.Prelude.{◌≡◌, ◌*◌, ◌≤◌, length};
+ghost use Rattle.pmc330_model.specs.Board.{answers_of};
+ghost use Rattle.trace.specs.Fields.{range_of, fields_after, calls_of};
+ghost use Rattle.trace.specs.Play.{in_buffer, played, played_buffer};
+ghost use Rattle.trace.specs.Replay.{comparisons_from, first_difference, replayed};
 
+use crate::fields::Checked;
 use analog::Refusal;
-use pmc330::parts::Parts;
+
+// The longest trace that is taken.
+pub const LONGEST: usize = 16_777_216;
 
 // What a replay of a trace finds: how many recorded answers were compared, and of the first call whose answer is not the
 // recorded one the index; that one is counted too.
@@ -20,45 +24,43 @@ pub enum Replayed {
     Differs { index: u32, count: u32 },
 }
 
-// What a run over a checked trace is for.
-#[derive(Clone, Copy, PartialEq, Eq)]
-enum Run {
-    Play,
-    Replay,
+// The calls of a checked trace, made on a new board. Each answer goes into what is left of the buffer, and recorded ones are
+// passed over.
+fn play_calls(trace: Checked, answers: &mut [u8])
+    requires { 5 * trace.calls ≤ length answers.old }
+    ensures { answers.new ≡ in_buffer (answers_of (range_of trace.entry.trace.now) (calls_of trace.entry.trace.now)) answers.old }
+{
+    let mut board = trace.board();
+    let mut done: usize = 0;
+    for field in trace.fields() {
+        if let Some(call) = field.call() {
+            let answer = call.made_on(&mut board);
+            // this form of a tail part is one that the project asks for
+            calls::put(&mut answers[done..], answer);
+            done += 5;
+        }
+    }
 }
 
-// The calls of a checked trace, on a new board. A play puts each answer into the buffer and passes over recorded ones; a replay
-// compares these with the answer before them, up to the first difference. One loop serves both: with two, the compiler would keep
-// the call of a field as a function of its own, and the player would be slower.
-fn run_calls(trace: &[u8], answers: &mut [u8], run: Run) -> Replayed
-    requires { Runnable trace.now run (length answers.old) }
-    ensures result { result ≡ found_by run trace.now }
-    ensures buffer { answers.new ≡ put_by run trace.now answers.old }
+// The calls of a checked trace, made on a new board. Each recorded answer is compared with that of the call before it, up to the
+// first difference.
+fn replay_calls(trace: Checked) -> Replayed
+    ensures { result ≡ first_difference 0 (comparisons_from 0 (answers_of (range_of trace.entry.trace.now) (calls_of trace.entry.trace.now)) (fields_after trace.entry.trace.now)) }
 {
-    let mut board = Parts::default();
-    // the heading has one of a board's ranges
-    let _ = board.open(u32::from(trace[7]));
-    let mut rest = &trace[8..];
-    let mut done: usize = 0;
+    let mut board = trace.board();
     let mut index: u32 = 0;
     let mut count: u32 = 0;
     let mut answer = Ok(0);
-    while !rest.is_empty() {
-        let (field, after) = fields::split(rest);
+    for field in trace.fields() {
         if let Some(call) = field.call() {
             answer = call.made_on(&mut board);
             index += 1;
-            if run == Run::Play {
-                calls::put(&mut answers[done..], answer);
-                done += 5;
-            }
-        } else if run == Run::Replay {
+        } else {
             count += 1;
             if !calls::is_equal(answer, field.body) {
                 return Replayed::Differs { index, count };
             }
         }
-        rest = after;
     }
     Replayed::Agree(count)
 }
@@ -68,18 +70,17 @@ pub fn play(trace: &[u8], answers: &mut [u8]) -> Result<u32, Refusal>
     ensures result { result ≡ played trace.now (length answers.old) }
     ensures buffer { answers.new ≡ played_buffer trace.now answers.old }
 {
-    let calls = fields::check(trace)?;
-    if answers.len() < 5 * calls {
+    let checked = Checked::try_from(trace)?;
+    if answers.len() < 5 * checked.calls {
         return Err(Refusal::ShortBuffer);
     }
-    run_calls(trace, answers, Run::Play);
-    Ok(calls as u32)
+    play_calls(checked, answers);
+    Ok(checked.calls as u32)
 }
 
 // Replays a recording: the first call whose answer is not the recorded one.
 pub fn replay(trace: &[u8]) -> Result<Replayed, Refusal>
     ensures { result ≡ replayed trace.now }
 {
-    fields::check(trace)?;
-    Ok(run_calls(trace, &mut [], Run::Replay))
+    Ok(replay_calls(Checked::try_from(trace)?))
 }

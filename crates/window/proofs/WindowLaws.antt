@@ -11,7 +11,7 @@ use borrow.Author.Tests.{leb-true, leb-false}
 use lib.ListN.{length, get_or, take, drop, set, length-append, length-drop}
 use lib.Seq.{append_snoc, drop-append-add, drop-cons, drop-drop, get_or_at, get_or-drop, set_at, take-take, length-take-le}
 use Rattle.analog.specs.Sums.{sum_of}
-use Rattle.analog.proofs.Integers.{lt_or_le}
+use Rattle.std.proofs.lemmas.Bool.{cases_lt}
 use Rattle.window.specs.Machine.{Filled}
 use Rattle.window.specs.Window.{window_after, sums_after, held_after}
 
@@ -106,11 +106,11 @@ pub record Summing (n : ℕ) (codes first out : List ℕ) (sum at : ℕ) : Type 
 module _ (n : ℕ) (codes first : List ℕ) where
   pub summing_start : Summing n codes first first 0 0
   unfolding sum_of sums_after
-  summing_start = record { within = omega arith; total = omega (arith, left_and_held n codes 0 (omega arith)); holds = refl }
+  summing_start = grind arith
 
   -- and from a window that has filled
   pub summing_from : (sum : ℕ) → Filled n codes sum first → Summing n codes first first sum n
-  summing_from sum f = record { within = f.within; total = f.total; holds = f.holds }
+  summing_from sum f = grind arith
 
   pub summing_turn :
       (out : List ℕ) (sum at next : ℕ) → length codes ≤ length first → at < length codes
@@ -140,7 +140,7 @@ unfolding sums_after
 sum_at n codes zero k rest h = absurd (not-suc-le-zero h)
 sum_at n codes (suc m) k rest h =
     ap (λ (l : List ℕ). get_or l k 0) (append_assoc sums (last ∷ []) rest)
-    ∙ go (λ earlier. sum_at n codes m k (last ∷ rest) earlier) (lt_or_le k m)
+    ∙ go (λ earlier. sum_at n codes m k (last ∷ rest) earlier) (cases_lt k m)
   where
     sums : List ℕ
     sums = sums_after n codes m
@@ -203,11 +203,7 @@ sums_held n codes = go (leb n (length codes)) refl
 
 -- the window of a run holds no more codes than the run has
 held_within : (n count : ℕ) → held_after n count ≤ count
-held_within n count = go (leb n count) refl
-  where
-    go : (full : Bool) → leb n count ≡ full → cond full n count ≤ count
-    go true e = leb-true n count e
-    go false e = omega arith
+held_within n count = grind arith
 
 -- what the window leaves when it has filled and then slid to the end
 pub slid_is :

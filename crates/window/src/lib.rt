@@ -23,8 +23,8 @@ fn held(n: u32, run: usize) -> u32
 }
 
 // The window fills: after each of the first `full` codes the sum of all so far. Gives the last sum.
-// `full` is N, or the whole run where that is shorter. The sums go by place, here and below: `zip` with `iter_mut` would leave
-// nothing known of them.
+// `full` is N, or the whole run where that is shorter. The sums go by place, here and below: tried, and after `zip` with `iter_mut`
+// nothing is known of them.
 fn fill(full: usize, codes: &[u16], sums: &mut [u32]) -> u32
     requires most { full ≤ 32 }
     requires within { full ≤ length codes.now }

@@ -9,7 +9,7 @@ use mathlib.Core.Bool.{false}
 use Rattle.std.proofs.lemmas.Nat.{xor_block}
 use Rattle.std.specs.Int.Bits.{xor_zero_r}
 use Rattle.analog.specs.Code.{in_format}
-use Rattle.analog.proofs.Integers.{lt_or_le}
+use Rattle.std.proofs.lemmas.Bool.{cases_lt}
 use Rattle.analog.proofs.formatted.Goals as goal
 
 pub returns-then-straight : goal.returns-then-straight
@@ -36,4 +36,4 @@ flipped code h (inr high) =
     ∙ omega (arith, e))
 
 pub returns-else-straight : goal.returns-else-straight
-returns-else-straight c = rw c.if-straight.false (flipped c.args.code (omega (arith, c.ranges.code.fits)) (lt_or_le c.args.code 0x8000))
+returns-else-straight c = rw c.if-straight.false (flipped c.args.code (omega (arith, c.ranges.code.fits)) (cases_lt c.args.code 0x8000))

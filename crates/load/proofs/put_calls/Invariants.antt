@@ -1,8 +1,7 @@
 -- What is put and what is left come to the whole.
-use Rattle.std.proofs.Common.{◌-◌}
 use Rattle.load.specs.Machine.{calls_bytes}
 use Rattle.load.proofs.WrittenLaws.{Putting}
 use Rattle.load.proofs.put_calls.Given as goal
 
-abbrev pub invariant-loop : goal.invariant-loop
-invariant-loop l = Putting l.initial.rest (calls_bytes l.seed l.calls) l.rest l.x (l.calls - l.counter) l.at
+abbrev pub invariant-loop-kind : goal.invariant-loop-kind
+invariant-loop-kind l = Putting l.initial.rest (calls_bytes l.fn.calls.x l.fn.calls.left) l.rest l.kind-iterator.x l.kind-iterator.left l.at

@@ -7,6 +7,6 @@ use Rattle.pmc330_c.proofs.pmc330_play.Goals as goal
 
 pub returns-clause-result : goal.returns-clause-result
 returns-clause-result c =
-    c.packed_answer.ensures
+    c.packed.ensures
     ∙ ap packed c.play.ensures.result
     ∙ plays_packed c.args.trace.now (length c.args.answers.now)

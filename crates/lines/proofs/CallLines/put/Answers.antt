@@ -1,5 +1,5 @@
 -- Each turn puts the line of one more call.
-use Rattle.std.proofs.Common.{rules, ℕ, ◌≡◌, ◌+◌, ◌/◌, ◌≤◌, List, ◌++◌, length, length-append, take, ap, subst, arith}
+use Rattle.std.proofs.Common.{rules, ℕ, ◌≡◌, ◌+◌, List, ◌++◌, length, length-append, ap, subst, arith}
 use Rattle.std.specs.Simd.{first_chunks}
 use Rattle.lines.specs.Text.{lines_of, text_of, Begins}
 use Rattle.lines.proofs.AnswerLaws.{one_more}
@@ -13,10 +13,11 @@ loop-call-init c = record { fits = omega arith; text = begins_none c.args.out.no
 pub loop-call-preserved : goal.loop-call-preserved
 loop-call-preserved c =
     let answers = c.args.self.answers.now in
+    let calls = c.args.self.calls in
     let line : List ℕ = text_of c.of_call.result in
-    let all : c.in-Some.answers.now ≡ take c.args.self.calls (first_chunks 5 (length answers / 5) answers) = search rules in
+    let is : c.in-Some.answers.now ≡ first_chunks 5 calls answers = search rules in
     let more : lines_of answers c.loop-call.call ++ line ≡ lines_of answers (c.loop-call.call + 1) =
-    one_more answers c.in-Some.answers.now c.args.self.calls all (search rules) c.loop-call.call line (search rules) c.of_call.ensures.text in
+    one_more answers c.in-Some.answers.now calls is c.loop-call.call line (search rules) c.of_call.ensures.text in
     let before = c.loop-call.invariant in
     let text =
     begins_line (lines_of answers c.loop-call.call) line _ c.args.out.now c.loop-call.out c.put-at.new.out c.loop-call.at c.put-at.result before.text (omega (arith, before.fits)) c.loop-call.auto.out c.of_call.ensures.short c.put-at.ensures more in
@@ -25,7 +26,7 @@ loop-call-preserved c =
 pub returns : goal.returns
 returns c =
     let answers = c.args.self.answers.now in
-    let all : c.args.self.calls ≤ length answers / 5 = search rules in
-    let last : c.loop-call.call ≡ c.args.self.calls = search rules in
-    puts_lines answers c.args.out.now c.loop-call.out c.args.self.calls c.loop-call.at (omega arith) (omega arith)
+    let calls = c.args.self.calls in
+    let last : c.loop-call.call ≡ calls = search rules in
+    puts_lines answers c.args.out.now c.loop-call.out calls c.loop-call.at (search rules) (omega (arith, last))
     (subst (λ n. Begins (lines_of answers n) c.args.out.now c.loop-call.out c.loop-call.at) last c.loop-call.invariant.text)

@@ -47,6 +47,6 @@ returns c =
     ∙ read_counts access.access.register b
     ∙ read_board b a.width a.offset access.access is)
     (c.read_bytes.ensures
-    ∙ ap (read_bytes (bits_of access.access.width) a.offset) (word.ensures ∙ same)
+    ∙ ap (read_bytes (bits_of access.access.width) access.access.offset) (word.ensures ∙ same)
     ∙ read_value b a.width a.offset access.access is) in
     record { answer = r.0; board = r.1 }

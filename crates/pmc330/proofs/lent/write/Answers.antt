@@ -13,8 +13,9 @@ use Rattle.analog.specs.declared.Refusal.TheVariants.{BadValue}
 use Rattle.pmc330_model.specs.Board.{questions_of, value_of_call}
 use Rattle.pmc330_model.specs.Calls.{write}
 use Rattle.pmc330_model.specs.Questions.{word_questions}
-use Rattle.pmc330_model.specs.Words.{held_word, written_word}
+use Rattle.pmc330_model.specs.Words.{with_word}
 use Rattle.pmc330_model.specs.declared.Board.{Board}
+use Rattle.pmc330_model.specs.declared.Registers.{Registers}
 use Rattle.pmc330.specs.Steps.{board_with, core_in}
 use Rattle.pmc330.specs.Widths.{bits_of}
 use Rattle.pmc330.proofs.HeldLaws.{Narrow}
@@ -22,7 +23,7 @@ use Rattle.pmc330.proofs.AccessLaws.{write_refused, write_asked, write_board}
 use Rattle.pmc330.proofs.QuestionLaws.{and_then}
 use Rattle.pmc330.proofs.LentLaws.{refused_in_place, accepted_in_place}
 use Rattle.pmc330.proofs.lent.write.Goals as goal
-use Rattle.pmc330.proofs.lent.write.Goals.{After-with_word-resulting}
+use Rattle.pmc330.proofs.lent.write.Goals.{After-word_write-write}
 
 pub returns-in_err-access : goal.returns-in_err-access
 returns-in_err-access c =
@@ -36,28 +37,21 @@ returns-in_err-access c =
     record { answer = r.0; board = r.1.0; words = r.1.1 }
 
 -- the board that the words hold, and its questions after those of the access
-abbrev board : After-with_word-resulting → Board
+abbrev board : After-word_write-write → Board
 board c = board_with c.from-core.result c.args.inputs.now c.args.gains.now c.args.codes.now c.args.unread.now
 
-word_is :
-    (c : After-with_word-resulting)
-    → c.written_word-word.result
-    ≡ written_word (bits_of c.in_ok-access.access.width) c.args.offset c.args.value (held_word c.from-core.result.registers c.args.gains.now c.in_ok-access.access.register)
-word_is c =
-    c.written_word-word.ensures
-    ∙ ap (written_word (bits_of c.in_ok-access.access.width) c.args.offset c.args.value) c.held_word-old.ensures
-
-abbrev later : After-with_word-resulting → List Question
+abbrev later : After-word_write-write → List Question
 later c =
-    let core = c.from-core.result in
-    word_questions core.registers (not core.cycle.running) c.in_ok-access.access.register c.written_word-word.result c.with_word-resulting.result
+    let r : Registers = c.from-core.result.registers in
+    let write = c.word_write-write.result in
+    word_questions r (not c.from-core.result.cycle.running) write.register write.word (with_word write.register write.word r)
 
 questions_left :
-    (c : After-with_word-resulting) {result : Result ⊤ Refusal}
+    (c : After-word_write-write) {result : Result ⊤ Refusal}
     → result ≡ asked (question BadValue (ltb c.args.value (2 ^ bits_of c.in_ok-access.access.width)) ∷ [])
     → asked (questions_of (board c) (write c.args.width c.args.offset c.args.value)) ≡ and_then result (later c)
 questions_left c told =
-    write_asked (board c) c.args.width c.args.offset c.in_ok-access.access c.in_ok-access.ensures c.args.value _ (word_is c) _ c.with_word-resulting.ensures
+    write_asked (board c) c.args.width c.args.offset c.in_ok-access.access c.in_ok-access.ensures c.args.value c.word_write-write.result c.word_write-write.ensures.register c.word_write-write.ensures.word
     ∙ ap (λ (result : Result ⊤ Refusal). and_then result (later c)) (sym told)
 
 pub returns-in_err-of_value : goal.returns-in_err-of_value
@@ -65,7 +59,7 @@ returns-in_err-of_value c =
     let a = c.args in
     let core = c.from-core in
     let p = err_from_is_err_and c.from_residual-in_err-of_value.result c.from_residual-in_err-of_value.ensures.1 in
-    let left = questions_left (goal.at.returns-in_err-of_value c).After-with_word-resulting c.in_err-of_value.ensures in
+    let left = questions_left (goal.at.returns-in_err-of_value c).After-word_write-write c.in_err-of_value.ensures in
     let r =
     refused_in_place a.words.now a.inputs.now a.gains.now a.codes.now a.unread.now (write a.width a.offset a.value) core.result core.ensures
     (p.1 ∙ ap Err p.2)
@@ -77,7 +71,7 @@ returns-in_err-of_word c =
     let a = c.args in
     let core = c.from-core in
     let p = err_from_is_err_and c.from_residual-in_err-of_word.result c.from_residual-in_err-of_word.ensures.1 in
-    let left = questions_left (goal.at.returns-in_err-of_word c).After-with_word-resulting c.in_ok-of_value.ensures in
+    let left = questions_left (goal.at.returns-in_err-of_word c).After-word_write-write c.in_ok-of_value.ensures in
     let r =
     refused_in_place a.words.now a.inputs.now a.gains.now a.codes.now a.unread.now (write a.width a.offset a.value) core.result core.ensures
     (p.1 ∙ ap Err p.2)
@@ -91,12 +85,12 @@ returns c =
     let core = c.from-core in
     let next = c.after_write-next in
     let access = c.in_ok-access in
-    let at = (goal.at.returns c).After-with_word-resulting in
+    let at = (goal.at.returns c).After-word_write-write in
     let narrow : Narrow (board_with next.result [] [] [] []) = omega (arith, next.type_inv) in
     let r =
     accepted_in_place a.words.now a.inputs.now a.gains.now a.codes.now a.unread.now (write a.width a.offset a.value) core.result core.ensures next.result _ _ _ _ _ 0 narrow
     (questions_left at c.in_ok-of_value.ensures ∙ sym c.in_ok-of_word.ensures)
-    (next.ensures a.codes.now ∙ write_board (board at) a.width a.offset access.access access.ensures a.value _ (word_is at))
+    (next.ensures a.codes.now ∙ write_board (board at) a.width a.offset access.access access.ensures a.value c.word_write-write.result c.word_write-write.ensures.register c.word_write-write.ensures.word)
     refl
     c.into.ensures in
     record { answer = r.0; board = r.1.0; words = r.1.1 }

@@ -7,12 +7,12 @@ use Rattle.trace.specs.Fields.{fields_of, later_fields}
 use Rattle.trace.specs.Machine.{walked}
 use Rattle.trace.proofs.fields.check_later.Given as goal
 
-abbrev pub invariant-loop-rest : goal.invariant-loop-rest
-invariant-loop-rest l =
+abbrev pub invariant-loop-field : goal.invariant-loop-field
+invariant-loop-field l =
     record {
-      few : l.calls + length l.rest ≤ length l.trace;
-      same : walked l.calls l.strays l.after_call (fields_of l.rest) ≡ walked 0 false false (later_fields l.trace);
+      few : l.calls + length l.fields.rest.now ≤ length l.trace;
+      same : walked l.calls l.strays l.after_call (fields_of l.fields.rest.now) ≡ walked 0 false false (later_fields l.trace);
     }
 
-abbrev pub decreases-loop-rest : goal.decreases-loop-rest
-decreases-loop-rest l = length l.rest
+abbrev pub decreases-loop-field : goal.decreases-loop-field
+decreases-loop-field l = length l.fields.rest.now
