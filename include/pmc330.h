@@ -440,7 +440,7 @@ uint64_t pmc330_replay(const uint8_t *trace, size_t trace_len);
      range              of the heading, 0 to 3
      calls              how many; 0 gives the heading alone
      trace, trace_len   the buffer for the trace. PMC330_LOAD_BYTES_MAX(calls) bytes have room for it, and
-                        PMC330_TRACE_MAX for every load that is accepted; it takes about 8 + 6.125 * calls
+                        PMC330_TRACE_MAX for every load that is accepted; the trace takes about 8 + 6.125 * calls
    A step replaces x, at first the seed, by x ^ (x << 13), then by x ^ (x >> 17), then by x ^ (x << 5), in 32 bits, and
    gives one call. With q = x / 8 and the width 16, by x % 8:
      0, 1, 2  read of offset q % 64 * 4

@@ -2,10 +2,11 @@
      cc -Iinclude tools/load.c target/staticlib/libpmc330_c.a -o target/load
      target/load SEED RANGE CALLS FILE
    SEED is 1 to 4294967295, RANGE 0 to 3, CALLS up to about 2.7 million; include/pmc330.h says what calls they are. The
-   benchmark of checker/ plays the file, says how many calls a second, and prints a digest of the answers:
-     cargo run --release --offline --bin benchmark -- load FILE
-   It ends with 0 where the file is written, 1 where the load is refused or the file cannot be written (a part of it may
-   be there then), 2 where it is called in another way. */
+   benchmark of checker/ checks whether the file (give it as an absolute path) is the load of SEED, plays it, says how
+   many calls a second, and prints digests of the load and of the answers:
+     cd checker && cargo run --release --offline --bin benchmark -- load FILE SEED
+   It ends with 0 where the file is written and its line is printed, 1 where the load is refused or something cannot be
+   written (a part of the file may be there then), 2 where it is called in another way. */
 #include <errno.h>
 #include <stdio.h>
 #include <stdlib.h>
@@ -57,7 +58,11 @@ int main(int count, char **words) {
         fprintf(stderr, "load: %s: %s\n", words[4], strerror(errno));
         return 1;
     }
-    printf("seed %u, range %u, %u calls: %u bytes\n", (unsigned)seed, (unsigned)range, (unsigned)calls,
-           (unsigned)PMC330_VALUE(result));
+    printf("seed %u, range %u, %u call%s: %u bytes\n", (unsigned)seed, (unsigned)range, (unsigned)calls,
+           calls == 1 ? "" : "s", (unsigned)PMC330_VALUE(result));
+    if (fflush(stdout) != 0) {
+        fprintf(stderr, "load: standard output: %s\n", strerror(errno));
+        return 1;
+    }
     return 0;
 }

@@ -79,6 +79,16 @@ pub fn load(seed: u32, range: u32, calls: u32, buffer: &mut [u8]) -> Answer {
     answer_of(unsafe { pmc330_load(seed, range, calls, buffer.as_mut_ptr(), buffer.len()) })
 }
 
+extern "C" {
+    fn header_load_bytes_max(calls: u32) -> usize;
+}
+
+/// The bytes that have room for any load of so many calls, by the header (`header.c`).
+pub fn load_bytes_max(calls: u32) -> usize {
+    // Safe: it is arithmetic.
+    unsafe { header_load_bytes_max(calls) }
+}
+
 /// A player: from a trace and an answer buffer to 256 * calls answered + number.
 pub type Player = fn(&[u8], &mut [u8]) -> u64;
 

@@ -29,6 +29,8 @@ uint32_t header_line(const pmc330_board *board) { return pmc330_line(board); }
 
 uint32_t header_next_store(const pmc330_board *board) { return pmc330_next_store(board); }
 
+size_t header_load_bytes_max(uint32_t calls) { return PMC330_LOAD_BYTES_MAX(calls); }
+
 /* Where the fields of the struct lie, and where it ends. */
 void header_places(size_t places[6]) {
     places[0] = offsetof(pmc330_board, words);

@@ -2,7 +2,7 @@
 
 use crate::analog::Answer;
 use crate::call::Call;
-use crate::trace::{field_of, heading, LONGEST_TRACE};
+use crate::trace::{decoded, field_of, heading, LONGEST_TRACE};
 
 /// A load: from seed, range, number of calls and a lent buffer to its answer, whose value is the length.
 pub type Loader = fn(u32, u32, u32, &mut [u8]) -> Answer;
@@ -80,4 +80,12 @@ pub fn load(seed: u32, range: u32, calls: u32, buffer: &mut [u8]) -> Answer {
         }
         Err(number) => Answer { number, value: 0 },
     }
+}
+
+/// Is a trace the load of a seed, of the range and the number of calls that the trace has?
+pub fn is_load_of(seed: u32, trace: &[u8]) -> bool {
+    let Ok((range, calls)) = decoded(trace) else {
+        return false;
+    };
+    trace_of_load(seed, range, calls.len() as u32, trace.len()).is_ok_and(|load| load == trace)
 }

@@ -4,15 +4,17 @@ use checker::analog::Answer;
 use checker::archive;
 use checker::call::Call;
 use checker::coverage::{kind, Coverage, Kind};
+use checker::digest::fnv_1a;
 use checker::lent::{lent, Lent};
-use checker::load::{call_of, calls_of, load, step, Loader};
+use checker::load::{call_of, calls_of, is_load_of, load, step, Loader};
 use checker::random::{seed_or, Random};
 use checker::script;
 use checker::stepped::answers_by_functions;
 use checker::trace::{self, answer_of_bytes, field_of, fields_of, trace_of, Field, LONGEST_TRACE};
+use std::collections::HashSet;
 use std::ops::RangeInclusive;
 
-const DRAWS: u32 = 150_000;
+const DRAWS: u32 = 200_000;
 
 /// Ranges above 3: also those that a remainder, a narrower number or a sign would let pass.
 const GREAT_RANGES: [u32; 9] = [
@@ -105,18 +107,23 @@ fn drawn_loads() {
     let mut random = Random::new(seed);
     let mut coverage = Coverage::new(draw_kinds());
     let mut calls = Coverage::new(call_kinds());
+    let mut seeds = HashSet::new();
     for index in 0..DRAWS {
         let draw = compared_draw(&mut random, &format!("seed {seed}, draw {index}"));
         let is_made = draw.number == 0;
         let made = list_of(&draw.stated).into_iter().filter(|_| is_made);
         made.for_each(|call| calls.note(&call));
+        if is_made && draw.stated.calls > 0 {
+            seeds.insert(draw.stated.seed);
+        }
         coverage.note(&draw);
     }
     println!("{DRAWS} loads drawn from seed {seed}\n{}", coverage.table());
     println!("calls of those that are accepted\n{}", calls.table());
+    println!("{} different seeds have a call", seeds.len());
     coverage.assert_all_met();
     calls.assert_all_met();
-    assert!(coverage.count("number 0") >= 100_000, "accepted loads");
+    assert!(seeds.len() >= 100_000, "different seeds");
 }
 
 fn compared_draw(random: &mut Random, name: &str) -> Draw {
@@ -137,11 +144,11 @@ fn compared_draw(random: &mut Random, name: &str) -> Draw {
 }
 
 fn any_seed(random: &mut Random) -> u32 {
-    match random.below(20) {
-        0 => 0,
-        1 => random.below(100),
-        2 => 1 << random.below(32),
-        3 => u32::MAX - random.below(3),
+    match random.below(40) {
+        0 | 1 => 0,
+        2 => random.below(100),
+        3 => 1 << random.below(32),
+        4 => u32::MAX - random.below(3),
         _ => random.bits() as u32,
     }
 }
@@ -418,14 +425,21 @@ fn fields_worked_by_hand() {
     for (x, field) in FIELDS {
         let seed = seed_before(x);
         assert_eq!(step(seed), x);
-        for (name, load) in PROGRAMS {
-            let mut buffer = vec![0xA5; 8 + field.len()];
-            let answer = load(seed, 2, 1, &mut buffer);
-            let value = buffer.len() as u64;
-            assert_eq!(answer, Answer { number: 0, value }, "{name}: x = {x}");
-            let heading = [0, 5, 0, b'A', b'3', b'3', b'0', 2];
-            assert_eq!(buffer, [&heading, field].concat(), "{name}: x = {x}");
-        }
+        check_first_field(seed, field);
+    }
+    // Seed FFFFFFFFH gives x = 0003E01FH, a reset.
+    check_first_field(u32::MAX, &[0x06, 0x00, 0x00]);
+}
+
+/// The load of one call, of range 2: the heading, and the call's field.
+fn check_first_field(seed: u32, field: &[u8]) {
+    for (name, load) in PROGRAMS {
+        let mut buffer = vec![0xA5; 8 + field.len()];
+        let answer = load(seed, 2, 1, &mut buffer);
+        let value = buffer.len() as u64;
+        assert_eq!(answer, Answer { number: 0, value }, "{name}: seed {seed}");
+        let heading = [0, 5, 0, b'A', b'3', b'3', b'0', 2];
+        assert_eq!(buffer, [&heading, field].concat(), "{name}: seed {seed}");
     }
 }
 
@@ -488,16 +502,21 @@ fn checks_in_order() {
     for (seed, range, calls, room, number, value) in CHECKS {
         let stated = Stated { seed, range, calls };
         let lent = drawn_buffer(&mut random, room);
-        for (name, load) in PROGRAMS {
-            let made = made_by(load, &stated, &lent);
-            let case = format!("{name}: {stated:?}, {room} bytes");
-            assert_eq!(made.answer, Answer { number, value }, "{case}");
-            // What must stay: all before the buffer, and all past the trace, which has no byte if it is refused.
-            let (before, past) = (lent.part.start, lent.part.start + value as usize);
-            assert!(made.buffer[..before] == lent.buffer[..before], "{case}");
-            assert!(made.buffer[past..] == lent.buffer[past..], "{case}");
-        }
+        check_answer(&stated, &lent, Answer { number, value });
         compare("checks", &stated, &lent);
+    }
+}
+
+/// Both programs give the answer, and leave what must stay: all before the buffer, and all past the trace, which has
+/// no byte if it is refused.
+fn check_answer(stated: &Stated, lent: &Lent<u8>, answer: Answer) {
+    for (name, load) in PROGRAMS {
+        let made = made_by(load, stated, lent);
+        let case = format!("{name}: {stated:?}, {} bytes", lent.part.len());
+        assert_eq!(made.answer, answer, "{case}");
+        let (before, past) = (lent.part.start, lent.part.start + answer.value as usize);
+        assert!(made.buffer[..before] == lent.buffer[..before], "{case}");
+        assert!(made.buffer[past..] == lent.buffer[past..], "{case}");
     }
 }
 
@@ -536,11 +555,20 @@ fn long_buffer() -> Lent<u8> {
     drawn_buffer(&mut Random::new(18), LONGEST_TRACE + 64)
 }
 
+/// Seeds, and the most calls of a load that is accepted; docs/MEASUREMENTS.md names them, the data sheet the first.
+const LONGEST_LOADS: [(u32, u32); 4] = [
+    (1, 2_739_575),
+    (330, 2_739_310),
+    (2_463_534_242, 2_739_649),
+    (u32::MAX, 2_739_138),
+];
+
 #[test]
 fn the_longest_load_and_the_next() {
     let lent = long_buffer();
-    for seed in [1, 330, 2_463_534_242, u32::MAX] {
+    for (seed, most) in LONGEST_LOADS {
         let (calls, length) = longest(seed, LONGEST_TRACE);
+        assert_eq!(calls, most, "seed {seed}");
         let range = seed % 4;
         let made = compare("the longest", &Stated { seed, range, calls }, &lent);
         println!("seed {seed}: {calls} calls, {length} bytes; with one more refused");
@@ -560,6 +588,9 @@ fn loads_of_18s_length_and_one_byte_more() {
     assert_eq!(compare("longer", &longer, &lent).answer, TOO_LONG);
     let whole = load_of_length(16_777_216);
     println!("16,777,216 bytes: {whole:?}; one more: {longer:?}");
+    // As docs/MEASUREMENTS.md has them.
+    assert_eq!((whole.seed, whole.calls), (14, 2_739_164));
+    assert_eq!((longer.seed, longer.calls), (5, 2_738_821));
     let made = compare("whole", &whole, &lent);
     let value = 16_777_216;
     assert_eq!(made.answer, Answer { number: 0, value });
@@ -664,14 +695,46 @@ fn drawn_loads_are_played() {
     coverage.assert_all_met();
 }
 
+/// The load by which machines are compared, with the digests that docs/MEASUREMENTS.md gives to the buyers.
 #[test]
-fn a_load_of_100_000_calls_is_played() {
+fn the_load_to_compare_machines_by() {
     let stated = Stated {
         seed: 1,
         range: 1,
-        calls: 100_000,
+        calls: 2_000_000,
     };
-    check_played(&stated, &archive_load(&stated));
+    let trace = archive_load(&stated);
+    assert!(is_load_of(1, &trace));
+    assert_eq!(trace.len(), 12_249_503);
+    assert_eq!(fnv_1a(&trace), 0xD779_33D9_AF89_000D);
+    let answers = check_played(&stated, &trace);
+    assert_eq!(fnv_1a(&answers), 0x291C_1A64_729C_39E5);
+}
+
+/// What the benchmark asks of a file.
+#[test]
+fn another_seed_or_another_byte_is_not_the_load() {
+    let mut random = Random::new(seed_or(18));
+    for _ in 0..LOADS {
+        let mut stated = any_good(&mut random);
+        stated.calls += 30;
+        let mut trace = archive_load(&stated);
+        assert!(is_load_of(stated.seed, &trace), "{stated:?}");
+        assert!(!is_load_of(stated.seed ^ 1, &trace), "{stated:?}");
+        let place = 8 + random.below(trace.len() as u32 - 8) as usize;
+        trace[place] ^= 1 << random.below(8);
+        assert!(!is_load_of(stated.seed, &trace), "{stated:?}, {place}");
+    }
+}
+
+/// The header's room for a load: 8 bytes, and for each call as many as the longest field has.
+#[test]
+fn the_headers_room_is_that_of_the_longest_fields() {
+    let lengths = [0, 1, 2, 3, 4, 5, 6, 7].map(|x| field_of(&call_of(x)).len());
+    let longest = lengths.into_iter().max().expect("eight lengths");
+    for calls in [0, 1, 2, 1_000, 2_739_649, u32::MAX] {
+        assert_eq!(archive::load_bytes_max(calls), 8 + longest * calls as usize);
+    }
 }
 
 /// The longest one. Starts are seldom accepted in a load, and one call in eight is a reset: 6 and 10 are rare.

@@ -5,13 +5,15 @@
 //! window, beside a plain loop. Best of several rounds, the players in turn within a round.
 //!
 //! Run it with `cargo run --release --offline --bin benchmark`; with `-- load`, `-- stepping`,
-//! `-- replay` or `-- window` only that part, with `-- load FILE` the trace in that file.
+//! `-- replay` or `-- window` only that part, with `-- load FILE` the trace in that file, and with
+//! `-- load FILE SEED` that trace if it is the load of that seed.
 
 use checker::archive::{self, Player, OLD_PLAYER};
 use checker::board::LONGEST_ADVANCE;
 use checker::call::Call;
 use checker::digest::fnv_1a;
 use checker::generator::{hostile, long_advances, middle_advances, short_advances};
+use checker::load::{is_load_of, load as independent_load, Loader};
 use checker::one_kind::{kinds, started, write_16, Kind};
 use checker::random::Random;
 use checker::replay::{recording, replay};
@@ -278,18 +280,30 @@ const LOAD_SEED: u32 = 1;
 const LOAD_RANGE: u32 = 1;
 const LOAD_CALLS: u32 = 2_000_000;
 
-/// The load, and the best seconds of its making.
-fn made_load() -> (Vec<u8>, f64) {
-    let mut trace = vec![1; trace::LONGEST_TRACE];
-    let (mut length, mut best) = (0, f64::INFINITY);
-    for _ in 0..ROUNDS {
-        let start = Instant::now();
-        let answer = archive::load(LOAD_SEED, LOAD_RANGE, LOAD_CALLS, &mut trace);
-        best = best.min(start.elapsed().as_secs_f64());
-        assert_eq!(answer.number, 0);
-        length = answer.value as usize;
+/// Seconds in which the load is made. Afterwards the buffer holds its bytes and no others.
+fn timed_making(make: Loader, buffer: &mut Vec<u8>) -> f64 {
+    buffer.resize(trace::LONGEST_TRACE, 1);
+    let start = Instant::now();
+    let answer = make(LOAD_SEED, LOAD_RANGE, LOAD_CALLS, buffer);
+    let seconds = start.elapsed().as_secs_f64();
+    assert_eq!(answer.number, 0);
+    buffer.truncate(answer.value as usize);
+    seconds
+}
+
+/// The load, and the best nanoseconds a call in which each program makes it.
+fn made_load() -> (Vec<u8>, [f64; 2]) {
+    let makers: [Loader; 2] = [archive::load, independent_load];
+    // Filled, so that neither is the first to touch its memory.
+    let mut made = [1, 2].map(|filling| vec![filling; trace::LONGEST_TRACE]);
+    let mut best = [f64::INFINITY; 2];
+    for round in 0..ROUNDS {
+        in_turn(round, LOAD_CALLS as usize, &mut best, |which| {
+            timed_making(makers[which], &mut made[which])
+        });
     }
-    trace.truncate(length);
+    let [trace, other] = made;
+    assert!(trace == other, "the loads differ");
     (trace, best)
 }
 
@@ -299,9 +313,10 @@ fn played_load(load: &Load, players: &[Player]) -> (Vec<f64>, Vec<Vec<u8>>) {
     // Filled, so that no player is the first to touch its memory; each in its own way, so that all is written.
     let filled = |which| vec![0xA0 + which as u8; 5 * load.calls];
     let mut answers: Vec<Vec<u8>> = (0..players.len()).map(filled).collect();
+    let times = CALLS_IN_A_ROUND.div_ceil(load.calls);
     for round in 0..ROUNDS {
-        in_turn(round, load.calls, &mut best, |which| {
-            timed(load, players[which], 1, &mut answers[which])
+        in_turn(round, times * load.calls, &mut best, |which| {
+            timed(load, players[which], times, &mut answers[which])
         });
     }
     (best, answers)
@@ -324,37 +339,57 @@ fn print_played(load: &Load) {
     );
 }
 
+/// What is played. By the digest two machines can see that they had the same bytes.
+fn print_stated(what: &str, range: u32, calls: usize, trace: &[u8]) {
+    println!(
+        "{what}, range {range}, {calls} calls, {} bytes, digest {:016X}",
+        trace.len(),
+        fnv_1a(trace)
+    );
+}
+
+fn print_made([archive, independent]: [f64; 2]) {
+    println!(
+        "  made by the archive in {archive:.2} ns a call, {:.1} million calls a second, archive / independent {:.3}",
+        1e3 / archive,
+        archive / independent
+    );
+}
+
 fn load_of_02() {
-    let (trace, seconds) = made_load();
-    println!(
-        "the load of 02, A8: seed {LOAD_SEED}, range {LOAD_RANGE}, {LOAD_CALLS} calls, {} bytes",
-        trace.len()
-    );
-    println!(
-        "  made by the archive in {:.1} ms, {:.1} million calls a second",
-        seconds * 1e3,
-        f64::from(LOAD_CALLS) / seconds / 1e6
-    );
-    let (_, calls) = decoded(&trace).expect("a load is a good trace");
+    let (trace, best) = made_load();
+    let (range, calls) = decoded(&trace).expect("a load is a good trace");
+    let what = format!("the load of 02, A8: seed {LOAD_SEED}");
+    print_stated(&what, range, calls.len(), &trace);
+    print_made(best);
     print_played(&Load {
         trace,
         ..load("the load of 02, A8", &calls)
     });
 }
 
-/// A load that `tools/load.c` wrote, or another trace.
-fn load_of_file(name: &str) {
+/// Why a file is no trace.
+fn reason(number: u64) -> &'static str {
+    match number {
+        18 => "no trace: it is too long, or does not begin with the heading of a trace",
+        19 => "no trace: a field is cut off, or has a tag or a length that no field has",
+        _ => "no trace: a recorded answer follows no call",
+    }
+}
+
+/// A load that `tools/load.c` wrote, or another trace. With a seed it must be the load of that seed.
+fn load_of_file(name: &str, seed: Option<u32>) {
     let trace = std::fs::read(name).unwrap_or_else(|error| fail(name, &error.to_string()));
-    let refused = |number| fail(name, &format!("no trace, refused with {number}"));
-    let (range, calls) = decoded(&trace).unwrap_or_else(refused);
+    let (range, calls) = decoded(&trace).unwrap_or_else(|number| fail(name, reason(number)));
     if calls.is_empty() {
         fail(name, "no call to be timed");
     }
-    println!(
-        "{name}: range {range}, {} calls, {} bytes",
-        calls.len(),
-        trace.len()
-    );
+    let what = match seed {
+        Some(seed) if is_load_of(seed, &trace) => format!("the load of seed {seed}"),
+        Some(seed) => fail(name, &format!("not the load of seed {seed}")),
+        None => "a trace".to_string(),
+    };
+    print_stated(&format!("{name}: {what}"), range, calls.len(), &trace);
     print_played(&Load {
         trace,
         ..load("a file", &calls)
@@ -645,19 +680,7 @@ fn window() {
     }
 }
 
-fn main() {
-    match std::env::args().nth(1).as_deref() {
-        Some("load") => {
-            return match std::env::args().nth(2) {
-                Some(name) => load_of_file(&name),
-                None => load_of_02(),
-            }
-        }
-        Some("stepping") => return stepping(),
-        Some("replay") => return replays(),
-        Some("window") => return window(),
-        _ => (),
-    }
+fn all() {
     mixed();
     println!();
     single_kinds();
@@ -673,4 +696,27 @@ fn main() {
     replays();
     println!();
     window();
+}
+
+fn usage() -> ! {
+    eprintln!("usage: benchmark [load [FILE [SEED]] | stepping | replay | window]");
+    std::process::exit(2)
+}
+
+fn main() {
+    let words: Vec<String> = std::env::args().skip(1).collect();
+    let words: Vec<&str> = words.iter().map(String::as_str).collect();
+    match words[..] {
+        [] => all(),
+        ["load"] => load_of_02(),
+        ["load", name] => load_of_file(name, None),
+        ["load", name, seed] => {
+            let seed = seed.parse().unwrap_or_else(|_| usage());
+            load_of_file(name, Some(seed))
+        }
+        ["stepping"] => stepping(),
+        ["replay"] => replays(),
+        ["window"] => window(),
+        _ => usage(),
+    }
 }

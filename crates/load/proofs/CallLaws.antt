@@ -1,16 +1,19 @@
 -- The calls of a load and their fields: each call is read back from its field.
 use mathlib.Core.Bool.{Bool, true, false, not, ◌&&◌}
+use mathlib.Core.List.{List, ◌++◌}
 use mathlib.Core.Path.{◌≡◌, refl, ap, ap₂, ◌∙◌}
 use Prim.Native.Nat.{ℕ, zero, suc, ◌/◌, ◌%◌, ◌^◌, ◌≤◌, ◌<◌}
 use native.Mathlib.Nat.{pow-suc}
 use native.Mathlib.Omega.{arith}
 use lib.Dec.{leb}
 use lib.ListN.{length}
-use Rattle.pmc330_model.specs.Calls.{Call, read, write, input, advance, trigger, reset}
+use Rattle.std.specs.List.{list_all}
+use Rattle.std.proofs.lemmas.List.Folds.{list_all-append}
+use Rattle.pmc330_model.specs.Calls.{Call, read, write, input, advance, trigger, reset, look, clear}
 use Rattle.trace.specs.Grammar.{length_in, is_kind_in, length_of, is_call_tag, is_answer_tag, low_first, signed_of, call_of}
 use Rattle.trace.specs.Fields.{Field, field_bytes, call_in}
 use Rattle.trace.proofs.FieldBytes.{is_sound}
-use Rattle.load.specs.Load.{voltage_of, offset_of, call_picked, call_from, low_bytes, unsigned_of, field_for}
+use Rattle.load.specs.Load.{voltage_of, offset_of, call_picked, call_from, low_bytes, is_byte, unsigned_of, field_for}
 
 -- ---- a number in bytes, and back
 
@@ -34,7 +37,7 @@ module _ (q : ℕ) where
 
 -- ---- a call's field
 
--- it can stand in a trace, as a call, and has 3 to 10 bytes
+-- it can stand in a trace, as a call, and is 3 to 10 bytes
 pub record CallField (field : Field) : Type 0 where
   pub sound : is_sound field ≡ true
   pub is_call : is_call_tag field.tag ≡ true
@@ -55,6 +58,27 @@ tested field e = grind arith
 pub call_field : (call : Call) → CallField (field_for call)
 unfolding length_of length_in is_call_tag is_answer_tag is_kind_in low_bytes
 call_field call = grind arith
+
+-- and it is bytes
+low_bytes_are : (size n : ℕ) → list_all is_byte (low_bytes size n) ≡ true
+unfolding low_bytes
+low_bytes_are zero n = refl
+low_bytes_are (suc size) n = let later = low_bytes_are size (n / 256) in grind arith
+
+low_and : (size n : ℕ) (bytes : List ℕ) → list_all is_byte (low_bytes size n ++ bytes) ≡ list_all is_byte bytes
+low_and size n bytes = list_all-append is_byte (low_bytes size n) bytes ∙ ap (λ (first : Bool). first && list_all is_byte bytes) (low_bytes_are size n)
+
+pub call_is_bytes : (call : Call) → list_all is_byte (field_bytes (field_for call)) ≡ true
+unfolding low_bytes
+call_is_bytes (read width offset) = low_and 1 width (low_bytes 2 offset) ∙ low_bytes_are 2 offset
+call_is_bytes (write width offset value) =
+    low_and 1 width (low_bytes 2 offset ++ low_bytes 4 value) ∙ low_and 2 offset (low_bytes 4 value) ∙ low_bytes_are 4 value
+call_is_bytes (input channel microvolts) = low_and 1 channel (low_bytes 4 (unsigned_of microvolts)) ∙ low_bytes_are 4 (unsigned_of microvolts)
+call_is_bytes (advance ticks) = low_bytes_are 4 ticks
+call_is_bytes trigger = refl
+call_is_bytes reset = refl
+call_is_bytes (look slot) = low_bytes_are 1 slot
+call_is_bytes (clear slot) = low_bytes_are 1 slot
 
 -- the player reads the call from it
 module _ (q : ℕ) where

@@ -1,4 +1,4 @@
--- The data sheet's examples: seed 1, range 1, eight calls; seed 83, whose first calls are of the other kinds; answers.
+-- The data sheet's example: seed 1, range 1, eight calls. More: seed 83, whose first calls are of the other kinds; answers.
 use mathlib.Core.List.{List, [], ◌∷◌}
 use mathlib.Core.Path.{◌≡◌, refl}
 use lib.IntN.{negsuc}

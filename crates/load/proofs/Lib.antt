@@ -1,5 +1,6 @@
 pub mod BitLaws
 pub mod CallLaws
 pub mod WrittenLaws
+pub mod UniqueLaws
 pub mod Theorems
 pub mod Examples

@@ -2,29 +2,37 @@
 use mathlib.Core.Bool.{Bool, true, false, cond, ◌&&◌}
 use mathlib.Core.List.{List, ◌∷◌, ◌++◌, map}
 use mathlib.Core.Path.{◌≡◌, refl, sym, ap, ap₂, subst, ◌∙◌}
-use Prim.Native.Nat.{ℕ, zero, suc, ◌+◌, ◌*◌, ◌≤◌}
+use Prim.Native.Nat.{ℕ, zero, suc, ◌+◌, ◌*◌, ◌≤◌, ◌<◌}
 use native.Mathlib.Omega.{arith}
 use lib.ListN.{length, take, drop, length-append, length-drop}
-use lib.Seq.{take-append_seam, drop-append_seam}
+use lib.Seq.{take-append_seam, drop-append_seam, drop-cons}
 use borrow.Author.Tests.{le-leb}
+use Rattle.std.specs.List.{list_all}
+use Rattle.std.proofs.lemmas.List.Folds.{list_all-append}
 use Rattle.analog.specs.Answers.{all_met, value_of}
 use Rattle.analog.proofs.AnswerLaws.{answered_by, accepted_is}
 use Rattle.pmc330_model.specs.Calls.{Call}
 use Rattle.pmc330_model.specs.Logbook.{logbook_answers}
 use Rattle.trace.specs.Grammar.{length_in, length_of, low_first}
-use Rattle.trace.specs.Fields.{Field, field_bytes, bytes_of_fields, tag_of, is_whole, same_bytes, is_heading, range_of, whole, later_fields, is_undamaged, listed, fields_after, call_fields, call_in, calls_of}
+use Rattle.trace.specs.Fields.{Field, Fields, damaged, field_bytes, bytes_of_fields, tag_of, is_whole, same_bytes, is_heading, range_of, whole, later_fields, is_undamaged, listed, fields_after, call_fields, call_in, calls_of}
 use Rattle.trace.specs.Play.{answers_follow, trace_questions, in_buffer}
-use Rattle.trace.proofs.FieldBytes.{all_sound, fields_back}
+use Rattle.trace.proofs.FieldBytes.{all_sound, parsed, fields_back}
+use Rattle.trace.proofs.CheckLaws.{heading_front, heading_length, heading_starts}
 use Rattle.trace.proofs.Theorems.{traces_accepted}
 use Rattle.load.specs.Bits.{stepped}
-use Rattle.load.specs.Load.{call_from, load_calls, field_for, load_trace, load_questions, load_answer, load_output}
+use Rattle.load.specs.Load.{call_from, load_calls, is_byte, field_for, load_trace, load_questions, load_answer, load_output}
 use Rattle.load.specs.Machine.{calls_bytes}
-use Rattle.load.specs.Sentences.{PlayedLoad, EveryXor, EveryLoad, EveryReadLoad, EveryPlayedLoad}
-use Rattle.load.proofs.BitLaws.{xor_bit, xor_most}
-use Rattle.load.proofs.CallLaws.{call_field, call_back}
+use Rattle.load.specs.Sentences.{PlayedLoad, EveryXor, EveryShift, EveryLoad, EveryReadLoad, EveryUniqueLoad, EveryPlayedLoad}
+use Rattle.load.proofs.BitLaws.{xor_bit, xor_most, left_bit, left_most, right_bit}
+use Rattle.load.proofs.CallLaws.{call_field, call_is_bytes, call_back}
+use Rattle.load.proofs.UniqueLaws.{dropped_bytes, fields_are}
 
 pub xor_by_bits : EveryXor
 xor_by_bits x y = record { bit = λ place h. xor_bit place x y h; most = xor_most x y }
+
+pub shifts_by_bits : EveryShift
+shifts_by_bits places x =
+    record { left = λ place h. left_bit places place x h; most = left_most places x; right = λ place. right_bit places place x }
 
 -- ---- the fields of a load
 
@@ -74,6 +82,14 @@ most_bytes x (suc calls) =
     let y = stepped x in
     omega (arith, length-append (field_bytes (field_for (call_from y))) (calls_bytes y calls), (call_field (call_from y)).most, most_bytes y calls)
 
+all_bytes : (x calls : ℕ) → list_all is_byte (calls_bytes x calls) ≡ true
+unfolding bytes_of_fields load_calls
+all_bytes x zero = refl
+all_bytes x (suc calls) =
+    let y = stepped x in
+    list_all-append is_byte (field_bytes (field_for (call_from y))) (calls_bytes y calls)
+    ∙ ap₂ ◌&&◌ (call_is_bytes (call_from y)) (all_bytes y calls)
+
 -- ---- the trace of a load
 
 module _ (seed range calls : ℕ) where
@@ -101,6 +117,10 @@ module _ (seed range calls : ℕ) where
   stated : range_of trace ≡ range
   unfolding load_trace bytes_of_fields
   stated = refl
+
+  bytes_are : range < 256 → list_all is_byte trace ≡ true
+  unfolding load_trace bytes_of_fields
+  bytes_are fits = let later = all_bytes seed calls in grind arith
 
   heading : range ≤ 3 → is_heading trace ≡ true
   unfolding load_trace bytes_of_fields is_heading is_whole same_bytes length_of length_in low_first
@@ -142,9 +162,29 @@ loads_read seed range calls =
       alone = alone seed range calls;
       made = made seed range calls;
       many = how_many seed calls;
+      bytes = bytes_are seed range calls;
       least = omega (arith, trace_length seed range calls, least_bytes seed calls);
       most = omega (arith, trace_length seed range calls, most_bytes seed calls);
     }
+
+-- ---- no other bytes
+
+undamaged_is : (later : Fields) → is_undamaged later ≡ true → later ≡ whole (listed later)
+undamaged_is damaged e = cc
+undamaged_is (whole found) e = refl
+
+pub loads_unique : EveryUniqueLoad
+unfolding load_trace bytes_of_fields
+loads_unique seed calls trace bytes starts undamaged only read =
+    let later = fields_after trace in
+    let parts = parsed (drop 8 trace) later (undamaged_is (later_fields trace) undamaged) in
+    let front : drop 7 trace ≡ range_of trace ∷ drop 8 trace = drop-cons trace 7 0 (omega (arith, heading_length trace starts)) in
+    let same : later ≡ map field_for (load_calls seed calls) =
+    sym (fields_are later parts.sound only (ap (list_all is_byte) parts.back ∙ dropped_bytes 8 trace bytes))
+    ∙ ap (λ (l : List Field). map field_for (map call_in l)) (sym only)
+    ∙ ap (map field_for) read in
+    heading_starts trace starts
+    ∙ ap (λ (l : List ℕ). heading_front ++ l) (front ∙ ap (λ (l : List ℕ). range_of trace ∷ l) (sym parts.back ∙ ap bytes_of_fields same))
 
 -- ---- the answer of a load, and its buffer
 

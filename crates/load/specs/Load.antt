@@ -1,5 +1,5 @@
 -- Document 02, A8, "A load to run everywhere": a trace of calls made from a seed.
-use Rattle.std.specs.Prelude.{ℕ, zero, suc, ◌-◌, ◌*◌, ◌/◌, ◌%◌, cond, not, ◌&&◌, List, [], ◌∷◌, ◌++◌, map, eqb, leb, ℤ, pos, negsuc, ◌-ℤ◌, length, drop}
+use Rattle.std.specs.Prelude.{ℕ, zero, suc, ◌-◌, ◌*◌, ◌/◌, ◌%◌, Bool, cond, not, ◌&&◌, List, [], ◌∷◌, ◌++◌, map, eqb, ltb, leb, ℤ, pos, negsuc, ◌-ℤ◌, length, drop}
 use Rattle.analog.specs.Answers.{Question, question, all_met, answered, Answer}
 use Rattle.pmc330_model.specs.Calls.{Call, read, write, input, advance, trigger, reset, look, clear}
 use Rattle.trace.specs.Fields.{Field, bytes_of_fields, fixed_bytes}
@@ -42,6 +42,10 @@ unfoldable pub low_bytes : (size n : ℕ) → List ℕ
 low_bytes zero n = []
 low_bytes (suc size) n = n % 256 ∷ low_bytes size (n / 256)
 
+-- what each place of a trace holds
+abbrev pub is_byte : ℕ → Bool
+is_byte n = ltb n 256
+
 -- "two's complement", in 32 bits
 abbrev pub unsigned_of : ℤ → ℕ
 unsigned_of (pos n) = n
@@ -50,8 +54,8 @@ unsigned_of (negsuc n) = 0xffff_ffff - n
 abbrev pub field : (tag : ℕ) (body : List ℕ) → Field
 field tag body = record { tag = tag; body = body }
 
--- the field of a call, by the grammar; that the player reads a load's calls back from theirs is `made` in Sentences.
--- A load has no look and no clear
+-- the field of a call, by the grammar; that the player reads the load's calls from these fields is `made` in Sentences, and that no
+-- others will do is `EveryUniqueLoad`. A load has no look and no clear
 abbrev pub field_for : Call → Field
 field_for (read width offset) = field 0x01 (low_bytes 1 width ++ low_bytes 2 offset)
 field_for (write width offset value) = field 0x02 (low_bytes 1 width ++ low_bytes 2 offset ++ low_bytes 4 value)
@@ -62,13 +66,17 @@ field_for reset = field 0x06 []
 field_for (look slot) = field 0x07 (low_bytes 1 slot)
 field_for (clear slot) = field 0x08 (low_bytes 1 slot)
 
--- "First 00H, length 5: the fixed bytes "A330", then the range." One above 3 is refused, so it is one byte
+-- "First 00H, length 5: the fixed bytes "A330", then the range." A range above 3 is refused, so it is one byte
 abbrev pub heading_for : (range : ℕ) → Field
 heading_for range = field 0x00 (fixed_bytes ++ (range ∷ []))
 
 -- "The load is a trace of stated range and number of calls"
 unfoldable pub load_trace : (seed range calls : ℕ) → List ℕ
 load_trace seed range calls = bytes_of_fields (heading_for range ∷ map field_for (load_calls seed calls))
+
+-- how many bytes it has
+abbrev pub load_length : (seed range calls : ℕ) → ℕ
+load_length seed range calls = length (load_trace seed range calls)
 
 -- ---- the call
 
@@ -77,16 +85,16 @@ abbrev pub load_questions : (seed range calls room : ℕ) → List Question
 load_questions seed range calls room =
     question BadSeed (not (eqb seed 0))
     ∷ question BadRange (leb range 3)
-    ∷ question NoRoom (leb (length (load_trace seed range calls)) room && leb (length (load_trace seed range calls)) 16_777_216)
+    ∷ question NoRoom (leb (load_length seed range calls) room && leb (load_length seed range calls) 16_777_216)
     ∷ []
 
 -- "its length returned"
 unfoldable pub load_answer : (seed range calls room : ℕ) → Answer
-load_answer seed range calls room = answered (load_questions seed range calls room) (length (load_trace seed range calls))
+load_answer seed range calls room = answered (load_questions seed range calls room) (load_length seed range calls)
 
 -- "written to a lent buffer"; 01: "A refusal changes no lent buffer, and places past those written stay, in later requests too."
 unfoldable pub load_output : (seed range calls : ℕ) (out : List ℕ) → List ℕ
 load_output seed range calls out =
     cond (all_met (load_questions seed range calls (length out)))
-    (load_trace seed range calls ++ drop (length (load_trace seed range calls)) out)
+    (load_trace seed range calls ++ drop (load_length seed range calls) out)
     out

@@ -7,17 +7,17 @@ use Rattle.load.specs.declared.Kind.{Kind}
 use Rattle.load.specs.declared.Kind.TheVariants.{Read, Write, Input, Advance, Trigger, Reset}
 
 -- the call of a kind, with its numbers from q
-abbrev pub call_of : Kind → (q : ℕ) → Call
-call_of Read q = read 16 (offset_of q)
-call_of Write q = write 16 (offset_of q) (q % 65_536)
-call_of Input q = input (q % 32) (voltage_of q)
-call_of Advance q = advance (q % 4_096)
-call_of Trigger q = trigger
-call_of Reset q = reset
+abbrev pub call_of_kind : Kind → (q : ℕ) → Call
+call_of_kind Read q = read 16 (offset_of q)
+call_of_kind Write q = write 16 (offset_of q) (q % 65_536)
+call_of_kind Input q = input (q % 32) (voltage_of q)
+call_of_kind Advance q = advance (q % 4_096)
+call_of_kind Trigger q = trigger
+call_of_kind Reset q = reset
 
 -- the bytes of its field
-abbrev pub call_bytes : Kind → (q : ℕ) → List ℕ
-call_bytes kind q = field_bytes (field_for (call_of kind q))
+abbrev pub kind_bytes : Kind → (q : ℕ) → List ℕ
+kind_bytes kind q = field_bytes (field_for (call_of_kind kind q))
 
 -- the bytes of the fields of so many calls, from an x on
 abbrev pub calls_bytes : (x calls : ℕ) → List ℕ

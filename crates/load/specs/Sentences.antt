@@ -1,13 +1,15 @@
--- What the data sheet says of a load. Proved in proofs/Theorems.antt (`xor_by_bits`, `loads_answered`, `loads_read`, `loads_played`).
-use Rattle.std.specs.Prelude.{ℕ, ◌+◌, ◌*◌, ◌^◌, ◌≤◌, ◌<◌, true, false, cond, not, List, map, ◌≡◌, length, take, drop}
+-- What the data sheet says of a load. Proved in proofs/Theorems.antt (`xor_by_bits`, `shifts_by_bits`, `loads_answered`, `loads_read`,
+-- `loads_unique`, `loads_played`).
+use Rattle.std.specs.Prelude.{ℕ, ◌+◌, ◌-◌, ◌*◌, ◌^◌, ◌≤◌, ◌<◌, true, false, cond, not, ◌&&◌, List, map, ◌≡◌, leb, length, take, drop}
+use Rattle.std.specs.List.{list_all}
 use Rattle.analog.specs.Answers.{all_met, value_of}
 use Rattle.analog.specs.Sentences.{AnsweredBy}
 use Rattle.pmc330_model.specs.Logbook.{logbook_answers}
 use Rattle.pmc330_model.specs.Words.{bit_of}
-use Rattle.trace.specs.Fields.{whole, range_of, later_fields, fields_after, call_fields, calls_of}
+use Rattle.trace.specs.Fields.{whole, range_of, is_heading, later_fields, is_undamaged, fields_after, call_fields, calls_of}
 use Rattle.trace.specs.Play.{trace_questions, in_buffer, played_result, played_buffer}
-use Rattle.load.specs.Bits.{xor_of}
-use Rattle.load.specs.Load.{load_calls, field_for, load_trace, load_questions, load_answer, load_output}
+use Rattle.load.specs.Bits.{shifted_left, shifted_right, xor_of}
+use Rattle.load.specs.Load.{load_calls, is_byte, field_for, load_trace, load_length, load_questions, load_answer, load_output}
 
 -- Exclusive or by its bits: it has 32, and each is set where just one of the two is
 pub record XorByBits (x y : ℕ) : Type 0 where
@@ -17,6 +19,16 @@ pub record XorByBits (x y : ℕ) : Type 0 where
 abbrev pub EveryXor : Type 0
 EveryXor = (x y : ℕ) → XorByBits x y
 
+-- The shifts by their bits. To the left each goes up so many places, those below are 0, and those past 32 bits are lost; to the right
+-- each goes down so many places, and those below the lowest are lost
+pub record ShiftsByBits (places x : ℕ) : Type 0 where
+  pub left : (place : ℕ) → place < 32 → bit_of place (shifted_left places x) ≡ (leb places place && bit_of (place - places) x)
+  pub most : shifted_left places x < 2 ^ 32
+  pub right : (place : ℕ) → bit_of place (shifted_right places x) ≡ bit_of (places + place) x
+
+abbrev pub EveryShift : Type 0
+EveryShift = (places x : ℕ) → ShiftsByBits places x
+
 -- Sentence 1, of a load: refused where 27, 14 or 28 meets a no, and then the buffer stays; else the value is the trace's length, the
 -- trace stands at the front, and the bytes past it stay
 pub record AnsweredLoad (seed range calls : ℕ) (out : List ℕ) : Type 0 where
@@ -24,13 +36,13 @@ pub record AnsweredLoad (seed range calls : ℕ) (out : List ℕ) : Type 0 where
   pub refused : all_met (load_questions seed range calls (length out)) ≡ false → load_output seed range calls out ≡ out
   pub value :
       all_met (load_questions seed range calls (length out)) ≡ true
-      → value_of (load_answer seed range calls (length out)) ≡ length (load_trace seed range calls)
+      → value_of (load_answer seed range calls (length out)) ≡ load_length seed range calls
   pub front :
       all_met (load_questions seed range calls (length out)) ≡ true
-      → take (length (load_trace seed range calls)) (load_output seed range calls out) ≡ load_trace seed range calls
+      → take (load_length seed range calls) (load_output seed range calls out) ≡ load_trace seed range calls
   pub beyond :
-      drop (length (load_trace seed range calls)) (load_output seed range calls out)
-      ≡ drop (length (load_trace seed range calls)) out
+      drop (load_length seed range calls) (load_output seed range calls out)
+      ≡ drop (load_length seed range calls) out
   pub size : length (load_output seed range calls out) ≡ length out
 
 -- any seed, range and number of calls, any buffer
@@ -38,18 +50,27 @@ abbrev pub EveryLoad : Type 0
 EveryLoad = (seed range calls : ℕ) (out : List ℕ) → AnsweredLoad seed range calls out
 
 -- Read by the player's definitions, the load is of its range, its fields are calls alone, and these are the list that 02 describes.
--- It has 3 to 10 bytes a call, and 8 more
+-- Every element is a byte if the range is below 256. There are 3 to 10 bytes a call, and 8 more
 pub record ReadLoad (seed range calls : ℕ) : Type 0 where
   pub stated : range_of (load_trace seed range calls) ≡ range
   pub fields : later_fields (load_trace seed range calls) ≡ whole (map field_for (load_calls seed calls))
   pub alone : call_fields (fields_after (load_trace seed range calls)) ≡ fields_after (load_trace seed range calls)
   pub made : calls_of (load_trace seed range calls) ≡ load_calls seed calls
   pub many : length (load_calls seed calls) ≡ calls
-  pub least : 8 + 3 * calls ≤ length (load_trace seed range calls)
-  pub most : length (load_trace seed range calls) ≤ 8 + 10 * calls
+  pub bytes : range < 256 → list_all is_byte (load_trace seed range calls) ≡ true
+  pub least : 8 + 3 * calls ≤ load_length seed range calls
+  pub most : load_length seed range calls ≤ 8 + 10 * calls
 
 abbrev pub EveryReadLoad : Type 0
 EveryReadLoad = (seed range calls : ℕ) → ReadLoad seed range calls
+
+-- No other bytes will do: those that begin with a heading, and after it have these calls and no other field, are the load of that range.
+-- So `field_for` and `heading_for` need not be taken on trust
+abbrev pub EveryUniqueLoad : Type 0
+EveryUniqueLoad =
+    (seed calls : ℕ) (trace : List ℕ) → list_all is_byte trace ≡ true → is_heading trace ≡ true → is_undamaged (later_fields trace) ≡ true
+    → call_fields (fields_after trace) ≡ fields_after trace → calls_of trace ≡ load_calls seed calls
+    → trace ≡ load_trace seed (range_of trace) calls
 
 -- "the player accepts it with at least 5 answer bytes per call": what a load leaves at the front of its buffer is played, all its calls
 -- are answered, and the answers are those of the logbook of 02's list

@@ -6,7 +6,7 @@ ghost use Rattle.std.specs.Option.{SomeIff};
 ghost use Rattle.trace.specs.Fields.{field_bytes};
 ghost use Rattle.load.specs.Bits.{stepped};
 ghost use Rattle.load.specs.Load.{call_from, heading_for, load_answer, load_output};
-ghost use Rattle.load.specs.Machine.{call_of, call_bytes, calls_bytes};
+ghost use Rattle.load.specs.Machine.{call_of_kind, kind_bytes, calls_bytes};
 
 use analog::{Answer, Refusal};
 use trace::LONGEST;
@@ -26,7 +26,8 @@ fn step(mut x: u32) -> u32
 }
 
 // The kinds of call that a load has, by their field's tag; reads and writes are 16 bits wide. A call's numbers are made from q:
-// tried with variants that carry them, a load took 1.25 of the time. The player's tag has three more: each match would name them.
+// tried with variants that carry them, and making a load took 1.25 times as long. The player's tag has three more: each match
+// would name them.
 #[derive(Clone, Copy)]
 enum Kind {
     Read = 1,
@@ -41,7 +42,7 @@ impl Kind {
     // The kind that x picks. Document 02 states it by this number; from here on it is a kind.
     #[tactic(auto, unfolding(crate::specs::Load::call_picked))]
     fn picked_by(x: u32) -> Self
-        ensures { call_of result (x / 8) ≡ call_from x }
+        ensures { call_of_kind result (x / 8) ≡ call_from x }
     {
         match x % 8 {
             0..=2 => Self::Read,
@@ -56,7 +57,7 @@ impl Kind {
     // How many bytes a call's field has.
     #[tactic(auto, unfolding(crate::specs::Load::low_bytes))]
     fn size(self) -> usize
-        ensures { (q : ℕ) → result ≡ length (call_bytes self q) }
+        ensures { (q : ℕ) → result ≡ length (kind_bytes self q) }
     {
         match self {
             Self::Read => 6,
@@ -70,8 +71,8 @@ impl Kind {
     // A call's field put at its place: the tag, the length of the body in two bytes, the body.
     #[tactic(auto, unfolding(crate::specs::Load::low_bytes))]
     fn put(self, q: u32, place: &mut [u8])
-        requires { length place.old ≡ length (call_bytes self q) }
-        ensures { place.new ≡ call_bytes self q }
+        requires { length place.old ≡ length (kind_bytes self q) }
+        ensures { place.new ≡ kind_bytes self q }
     {
         let tag = self as u8;
         let offset = (q % 64 * 4) as u8;
@@ -107,9 +108,9 @@ impl Iterator for Calls {
 
     ghost use Rattle.std.specs.Iterator.{YieldsFirstBy, item_count};
     ghost use Rattle.load.specs.Load.{load_calls};
-    ghost use Rattle.load.specs.Machine.{call_of};
+    ghost use Rattle.load.specs.Machine.{call_of_kind};
 
-    ghost next_gives = { YieldsFirstBy (λ call. call_of call.0 call.1) (λ s. load_calls s.x s.left) };
+    ghost next_gives = { YieldsFirstBy (λ call. call_of_kind call.0 call.1) (λ s. load_calls s.x s.left) };
 
     ghost remaining = { item_count (λ s. load_calls s.x s.left) };
 
