@@ -43,16 +43,26 @@ fn archive_folder() -> PathBuf {
     }
 }
 
-/// The header's own lines of C, which `src/header.c` makes callable.
+/// The header's own lines of C, which `tools/pmc330.c` makes callable, as Python calls them; and what
+/// `src/header.c` says of the header beside.
 fn link_header() {
-    let include = package().join("..").join("include");
-    let source = package().join("src").join("header.c");
-    println!("cargo:rerun-if-changed={}", source.display());
     println!(
         "cargo:rerun-if-changed={}",
-        include.join("pmc330.h").display()
+        include().join("pmc330.h").display()
     );
-    let object = out().join("header.o");
+    let root = package().join("..");
+    link_source("pmc330_lines", &root.join("tools").join("pmc330.c"));
+    link_source("pmc330_header", &package().join("src").join("header.c"));
+}
+
+fn include() -> PathBuf {
+    package().join("..").join("include")
+}
+
+/// A source in C over the header, as a library of this name.
+fn link_source(name: &str, source: &Path) {
+    println!("cargo:rerun-if-changed={}", source.display());
+    let object = out().join(format!("{name}.o"));
     run(Command::new("cc")
         .args([
             "-std=c99",
@@ -63,12 +73,12 @@ fn link_header() {
             "-O2",
         ])
         .arg("-I")
-        .arg(&include)
+        .arg(include())
         .arg("-c")
-        .args([&source])
+        .arg(source)
         .arg("-o")
         .arg(&object));
-    archived(&object, "pmc330_header");
+    archived(&object, name);
 }
 
 /// One object as a library to be linked.

@@ -131,13 +131,20 @@ def fields_of(trace):
     return found
 
 
-def decoded_body(fields, body):
-    words, at = [], 0
-    for what, size, signed in fields:
-        value = int.from_bytes(body[at : at + size], "little", signed=signed)
-        words.append(f"{value:X}H" if what in ("offset", "value") else str(value))
+def numbers_of(fields, body):
+    numbers, at = [], 0
+    for _, size, signed in fields:
+        numbers.append(int.from_bytes(body[at : at + size], "little", signed=signed))
         at += size
-    return words
+    return numbers
+
+
+def decoded_body(fields, body):
+    whats = [what for what, _, _ in fields]
+    return [
+        f"{value:X}H" if what in ("offset", "value") else str(value)
+        for what, value in zip(whats, numbers_of(fields, body))
+    ]
 
 
 def decoded(trace):

@@ -41,6 +41,17 @@ pub struct Logbook {
     last_code: u32,
     cycle: Option<Cycle>,
     pub events: Vec<Event>,
+    /// No events of 01: for the pictures of scans, which show beginnings too.
+    pub beginnings: Vec<Beginning>,
+}
+
+/// A conversion begins: it takes its code.
+#[derive(Clone, Copy, Debug, PartialEq, Eq)]
+pub struct Beginning {
+    pub tick: u64,
+    pub slot: usize,
+    /// In the format then in force.
+    pub code: u32,
 }
 
 /// The class of each word of the map, one letter for four offsets: Interrupt, Control, timer
@@ -80,6 +91,7 @@ impl Logbook {
             last_code: 0,
             cycle: None,
             events: vec![Event::Reset],
+            beginnings: Vec::new(),
         }
     }
 
@@ -146,6 +158,7 @@ impl Logbook {
         opened.inputs = self.inputs;
         self.events.append(&mut opened.events);
         opened.events = std::mem::take(&mut self.events);
+        opened.beginnings = std::mem::take(&mut self.beginnings);
         *self = opened;
         answer(0, 0)
     }
@@ -418,21 +431,35 @@ impl Logbook {
         let calibration = calibration_voltage(self.acquisition().into());
         let voltage = calibration.unwrap_or(self.inputs[channel]);
         self.last_code = code(self.range, self.gain_of(channel), voltage);
+        self.beginnings.push(Beginning {
+            tick: self.tick,
+            slot: self.slot_of(k),
+            code: self.formatted_code(),
+        });
+    }
+
+    fn slot_of(&self, k: u64) -> usize {
+        let pass = k / self.channels_in_a_pass();
+        let is_in_second_half = self.is_differential() && pass % 2 == 1;
+        self.channel_of(k) + if is_in_second_half { 16 } else { 0 }
     }
 
     fn store(&mut self, k: u64) {
         let m = self.channels_in_a_pass();
-        let is_in_second_half = self.is_differential() && k / m % 2 == 1;
-        let slot = self.channel_of(k) + if is_in_second_half { 16 } else { 0 };
-        self.store_last_code(slot, (k + 1) % m == 0);
+        self.store_last_code(self.slot_of(k), (k + 1) % m == 0);
     }
 
-    /// The event of a store, in the format now in force.
-    fn store_last_code(&mut self, slot: usize, ends_pass: bool) {
-        let code = match self.memory[0x04] & 1 {
+    /// The code last taken, in the format now in force.
+    fn formatted_code(&self) -> u32 {
+        match self.memory[0x04] & 1 {
             1 => self.last_code,
             _ => in_twos_complement(self.last_code),
-        };
+        }
+    }
+
+    /// The event of a store.
+    fn store_last_code(&mut self, slot: usize, ends_pass: bool) {
+        let code = self.formatted_code();
         let interrupts = match self.memory[0x05] >> 4 {
             1 => true,
             2 => ends_pass,

@@ -60,8 +60,9 @@ impl Example {
 fn each_example_prints_what_is_stored() {
     let examples = examples();
     assert!(
-        examples.len() >= 9,
-        "the first trace, the five scan modes, the front panel, the trigger before arming and a recording"
+        examples.len() >= 11,
+        "the first trace, the five scan modes, the long jump, the front panel, the trigger before arming, a recording \
+         and a load"
     );
     for example in examples {
         example.has_stored("lines", &printed(&example.trace));
