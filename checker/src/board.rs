@@ -20,6 +20,10 @@ pub const BURST_STEP: u64 = 120;
 
 pub const LONGEST_ADVANCE: u32 = 16_777_216;
 
+/// An input's voltage lies between these, both included, in microvolts.
+pub const LOWEST_INPUT: i32 = -35_000_000;
+pub const HIGHEST_INPUT: i32 = 55_000_000;
+
 /// Due at this tick: nothing comes by itself.
 const NEVER: u64 = u64::MAX;
 
@@ -202,7 +206,7 @@ impl Board {
         if channel > 31 {
             return refused(11);
         }
-        if !(-35_000_000..=55_000_000).contains(&microvolts) {
+        if !(LOWEST_INPUT..=HIGHEST_INPUT).contains(&microvolts) {
             return refused(12);
         }
         self.inputs[channel as usize] = microvolts;

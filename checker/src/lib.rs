@@ -15,6 +15,7 @@ pub mod cases;
 pub mod continuous;
 pub mod coverage;
 pub mod digest;
+pub mod figures;
 pub mod fraction;
 pub mod generator;
 pub mod history;

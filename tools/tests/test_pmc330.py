@@ -1,6 +1,8 @@
 """The bench in Python: its names are the header's, its answers the program's, its errors say what is wrong."""
 
 import copy
+import enum
+import inspect
 import math
 import os
 import pathlib
@@ -48,21 +50,66 @@ def scanning():
     return board
 
 
+# What stands before a member's name in the header, by the enum that it is a member of.
+PREFIXES = {
+    "Range": "RANGE_", "Register": "", "Format": "FORMAT_", "Trigger": "TRIGGER_", "Acquisition": "ACQUISITION_",
+    "Scan": "SCAN_", "Timer": "TIMER_", "InterruptOn": "INTERRUPT_ON_", "Interrupt": "INTERRUPT_", "Gain": "GAIN_",
+    "Refusal": "",
+}  # fmt: skip
+
+# The numbers that a function gives, by its name: at each argument.
+PLACES = {"Register.gain": range(4), "Register.mailbox": range(32)}
+
+
+def in_c(enum_name, name):
+    """A member's name in C."""
+    name = name.removeprefix({"Range": "FROM_", "Gain": "TIMES_"}.get(enum_name, ""))
+    if name.startswith("CALIBRATION_"):
+        return f"PMC330_ACQUISITION(PMC330_{name})"
+    return "0" if (enum_name, name) == ("Timer", "OFF") else f"PMC330_{PREFIXES[enum_name]}{name}"
+
+
+def named_numbers():
+    """Every number that the module names for everyone, by its name in C. A name of another kind has none in it."""
+    numbers = {}
+    for public in pmc330.__all__:
+        named = getattr(pmc330, public)
+        if isinstance(named, type) and issubclass(named, enum.IntEnum):
+            numbers |= {in_c(public, name): int(member) for name, member in named.__members__.items()}
+            for name in [name for name, kind in vars(named).items() if isinstance(kind, staticmethod) and name[0] != "_"]:
+                of = getattr(named, name)
+                numbers |= {f"PMC330_{name.upper()}({place}U)": of(place) for place in PLACES[f"{public}.{name}"]}
+        else:
+            assert callable(named) and not any(isinstance(it, int) for it in getattr(named, "__dict__", {}).values()), public
+    return numbers
+
+
 class Names(unittest.TestCase):
     def test_are_those_of_the_header(self):
-        names = {f"PMC330_{refusal.name}": refusal for refusal in pmc330.Refusal}
-        names |= {f"PMC330_{register.name}": register for register in Register}
-        names["PMC330_START_CHANNEL"] = Register.START_CHANNEL
-        names |= {f"PMC330_GAIN({group}U)": Register.gain(group) for group in range(4)}
-        names |= {f"PMC330_MAILBOX({slot}U)": Register.mailbox(slot) for slot in range(32)}
-        names |= {f"PMC330_RANGE_{member.name.removeprefix('FROM_')}": member for member in Range}
-        names |= {f"PMC330_GAIN_{member.name.removeprefix('TIMES_')}": member for member in pmc330.Gain}
-        for prefix, kind in FIELDS.items():
-            names |= {f"PMC330_{prefix}_{member.name}": member for member in kind}
-        for name in [name for name in names if "ACQUISITION_CALIBRATION" in name]:
-            names[f"PMC330_ACQUISITION({name.replace('ACQUISITION_', '')})"] = names.pop(name)
-        names["0"] = names.pop("PMC330_TIMER_OFF")
-        self.assertEqual(self.values_in_c(list(names)), [int(value) for value in names.values()])
+        numbers = named_numbers()
+        self.assertEqual(dict(zip(numbers, self.values_in_c(numbers))), numbers)
+
+    def test_leave_out_none_of_the_header(self):
+        """Each enum has all of the header's names that begin as its own do; the refusals are those of a board's calls."""
+        header = (ROOT / "include/pmc330.h").read_text("utf-8")
+        begun = tuple(f"PMC330_{prefix}" for prefix in PREFIXES.values() if prefix)
+        of_header = re.findall(r"^#define (PMC330_\w+) ", header, re.M)
+        names = {name for name in of_header if name.startswith(begun) and not name.endswith(("_MASK", "_TICKS"))}
+        names |= {f"PMC330_ACQUISITION({name})" for name in of_header if name.startswith("PMC330_CALIBRATION_")}
+        self.assertEqual(names - set(named_numbers()), set())
+        self.assertEqual(sorted(pmc330.Refusal), [*range(1, 15), 22])
+
+    def test_of_the_other_tools_are_those_of_the_header(self):
+        numbers = {
+            "PMC330_TRACE_MAX": trace_text.C_TAKES,
+            "PMC330_CONVERSION_TICKS": scan_events.CONVERSION,
+            "PMC330_TRIGGER_TICKS": scan_events.TRIGGERS,
+        }
+        numbers |= {f"PMC330_HEADING[{place}]": byte for place, byte in enumerate(trace_text.HEADING)}
+        for name, (tag, fields) in trace_text.FIELDS.items():
+            numbers[f"PMC330_TAG_{name.upper()}"] = tag
+            numbers[f"PMC330_LENGTH_{name.upper()}"] = sum(size for _, size, _ in fields)
+        self.assertEqual(dict(zip(numbers, self.values_in_c(numbers))), numbers)
 
     def test_of_places_that_are_none_are_refused(self):
         for call, words in [
@@ -74,8 +121,11 @@ class Names(unittest.TestCase):
                 call()
 
     def test_are_all_for_everyone(self):
-        public = {name for name, kind in vars(pmc330).items() if isinstance(kind, type) and kind.__module__ == "pmc330"}
-        self.assertEqual(set(pmc330.__all__), {name for name in public if name[0] != "_"} | {"volts"})
+        is_own = lambda it: not inspect.ismodule(it) and getattr(it, "__module__", "pmc330") == "pmc330"
+        public = {name for name, it in vars(pmc330).items() if name[0] != "_" and is_own(it)}
+        self.assertEqual(set(pmc330.__all__), public)
+        enums = {name for name in pmc330.__all__ if isinstance(getattr(pmc330, name), enum.EnumMeta)}
+        self.assertEqual(set(PREFIXES), enums)
 
     def values_in_c(self, names):
         lines = "".join(f'printf("%lu\\n", (unsigned long)({name}));' for name in names)
@@ -85,12 +135,6 @@ class Names(unittest.TestCase):
             subprocess.run(command, input=source, text=True, check=True)
             said = subprocess.run([f"{folder}/names"], capture_output=True, text=True, check=True).stdout
         return [int(line) for line in said.split()]
-
-
-FIELDS = {
-    "FORMAT": pmc330.Format, "TRIGGER": pmc330.Trigger, "ACQUISITION": pmc330.Acquisition, "SCAN": pmc330.Scan,
-    "TIMER": pmc330.Timer, "INTERRUPT_ON": pmc330.InterruptOn, "INTERRUPT": Interrupt,
-}  # fmt: skip
 
 
 class Answers(unittest.TestCase):

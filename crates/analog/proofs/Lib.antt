@@ -6,4 +6,5 @@ pub mod CorrectionLaw
 pub mod Bounds
 pub mod RefusalLaws
 pub mod AnswerLaws
-pub mod Theorems
+pub mod Sentences
+pub mod Bench

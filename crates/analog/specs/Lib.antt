@@ -5,3 +5,4 @@ pub mod Code
 pub mod Correction
 pub mod Machine
 pub mod Sentences
+pub mod Bench

@@ -1,4 +1,4 @@
--- Sentence 1 of the data sheet, of every answer, and of the correction. `correction_answered` in proofs/Theorems.antt proves the latter.
+-- Sentence 1 of the data sheet, of every answer, and of the correction. `correction_answered` in proofs/Sentences.antt proves the latter.
 use Rattle.std.specs.Prelude.{ℕ, true, false, List, ◌≡◌, Err, IsErrAnd}
 use Rattle.analog.specs.Answers.{Answer, Question, first_no, all_met, asked, number_of, value_of, is_accepted}
 use Rattle.analog.specs.Correction.{correction_questions, corrected_answer}

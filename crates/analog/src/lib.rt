@@ -1,6 +1,8 @@
 // The analog arithmetic: the code of a voltage, its format, and the two-point correction.
 #![tactic(auto)]
 
+pub mod theorems;
+
 ghost use Rattle.std.specs.Prelude.{◌≡◌, ◌<◌};
 ghost use Rattle.analog.specs.Answers.{number_of_refusal, packed};
 ghost use Rattle.analog.specs.Code.{gain_of, calibration_of, code_of, in_format};

@@ -15,9 +15,9 @@ begins_none before = begins [] before before 0 refl refl (omega arith)
 
 -- a buffer of 32 bytes takes the line
 pub takes :
-    (line parts before after : List ℕ) (count : ℕ) → 32 ≤ length before → parts ≡ line → Begins parts before after count
+    (line parts before after : List ℕ) (count : ℕ) → 32 ≤ length before → Begins parts before after count → parts ≡ line
     → Begins (taken line before) before after count
-takes line parts before after count h is b = rw (le-leb 32 (length before) h, sym is) b
+takes line parts before after count h b is = rw (le-leb 32 (length before) h, sym is) b
 
 -- a part fits where all of them do
 pub part_fits : {X : Type 0} (f : X → List ℕ) (parts : List X) (i : ℕ) (d : X) → i < length parts → length (flat_map f (take i parts)) + length (f (get_or parts i d)) ≤ length (flat_map f parts)

@@ -107,3 +107,20 @@ pub record Begins (text before after : List ℕ) (count : ℕ) : Type 0 where
   pub holds : after ≡ text ++ drop count before
   pub within : count ≤ length after
   pub front : count ≡ length (take count after)
+
+-- ---- examples
+
+-- lines that the data sheet and README print, and some at the ends of the ranges
+pub record LineExamples : Type 0 where
+  -- "1 0 00000000"
+  pub first : line_of 1 0 0 ≡ (49 ∷ 32 ∷ 48 ∷ 32 ∷ 48 ∷ 48 ∷ 48 ∷ 48 ∷ 48 ∷ 48 ∷ 48 ∷ 48 ∷ 10 ∷ [])
+  -- "6 0 00008000"
+  pub sixth : line_of 6 0 0x8000 ≡ (54 ∷ 32 ∷ 48 ∷ 32 ∷ 48 ∷ 48 ∷ 48 ∷ 48 ∷ 56 ∷ 48 ∷ 48 ∷ 48 ∷ 10 ∷ [])
+  -- "10920 255 FEDCBA98"
+  pub last : line_of 10920 255 0xFEDCBA98 ≡ (49 ∷ 48 ∷ 57 ∷ 50 ∷ 48 ∷ 32 ∷ 50 ∷ 53 ∷ 53 ∷ 32 ∷ 70 ∷ 69 ∷ 68 ∷ 67 ∷ 66 ∷ 65 ∷ 57 ∷ 56 ∷ 10 ∷ [])
+  -- "refused 18"
+  pub refused : refused_of 18 ≡ (114 ∷ 101 ∷ 102 ∷ 117 ∷ 115 ∷ 101 ∷ 100 ∷ 32 ∷ 49 ∷ 56 ∷ 10 ∷ [])
+  -- "agree 0"
+  pub agree : agree_of 0 ≡ (97 ∷ 103 ∷ 114 ∷ 101 ∷ 101 ∷ 32 ∷ 48 ∷ 10 ∷ [])
+  -- "differs 12 7"
+  pub differs : differs_of 12 7 ≡ (100 ∷ 105 ∷ 102 ∷ 102 ∷ 101 ∷ 114 ∷ 115 ∷ 32 ∷ 49 ∷ 50 ∷ 32 ∷ 55 ∷ 10 ∷ [])

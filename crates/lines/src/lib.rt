@@ -1,6 +1,8 @@
 // The lines that the programs print: one for each call, or one for a refused trace; and one for a replay.
 #![tactic(auto)]
 
+pub mod theorems;
+
 ghost use Rattle.std.specs.Prelude.{◌≡◌, ◌+◌, ◌*◌, ◌<◌, ◌≤◌, ◌%◌, ◌^◌, length, flat_map, leb, is_some, IfSome};
 ghost use Rattle.std.specs.Simd.{first_chunks};
 ghost use Rattle.lines.specs.Text.{digit_of, hex_of, line_of, number_in, word_in, text_of, taken, put_lines, Begins};

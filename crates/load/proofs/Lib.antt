@@ -2,5 +2,5 @@ pub mod BitLaws
 pub mod CallLaws
 pub mod WrittenLaws
 pub mod UniqueLaws
-pub mod Theorems
+pub mod Sentences
 pub mod Examples

@@ -1,14 +1,16 @@
--- What the data sheet says of a load. Proved in proofs/Theorems.antt (`xor_by_bits`, `shifts_by_bits`, `loads_answered`, `loads_read`,
+-- What the data sheet says of a load. Proved in proofs/Sentences.antt (`xor_by_bits`, `shifts_by_bits`, `loads_answered`, `loads_read`,
 -- `loads_unique`, `loads_played`).
-use Rattle.std.specs.Prelude.{ℕ, ◌+◌, ◌-◌, ◌*◌, ◌^◌, ◌≤◌, ◌<◌, true, false, cond, not, ◌&&◌, List, map, ◌≡◌, leb, length, take, drop}
+use Rattle.std.specs.Prelude.{ℕ, ◌+◌, ◌-◌, ◌*◌, ◌^◌, ◌≤◌, ◌<◌, true, false, cond, not, ◌&&◌, List, [], ◌∷◌, map, ◌≡◌, leb, length, take, drop, pos, neg_ℤ, Ok, Err}
 use Rattle.std.specs.List.{list_all}
 use Rattle.analog.specs.Answers.{all_met, value_of}
 use Rattle.analog.specs.Sentences.{AnsweredBy}
+use Rattle.analog.specs.declared.Refusal.TheVariants.{BadRange, BadSeed, NoRoom}
+use Rattle.pmc330_model.specs.Calls.{read, write, input, advance, trigger, reset}
 use Rattle.pmc330_model.specs.Logbook.{logbook_answers}
 use Rattle.pmc330_model.specs.Words.{bit_of}
 use Rattle.trace.specs.Fields.{whole, range_of, is_heading, later_fields, is_undamaged, fields_after, call_fields, calls_of}
 use Rattle.trace.specs.Play.{trace_questions, in_buffer, played_result, played_buffer}
-use Rattle.load.specs.Bits.{shifted_left, shifted_right, xor_of}
+use Rattle.load.specs.Bits.{shifted_left, shifted_right, xor_of, stepped}
 use Rattle.load.specs.Load.{load_calls, is_byte, field_for, load_trace, load_length, load_questions, load_answer, load_output}
 
 -- Exclusive or by its bits: it has 32, and each is set where just one of the two is
@@ -84,3 +86,26 @@ EveryPlayedLoad =
     (seed range calls : ℕ) (out answers : List ℕ) → all_met (load_questions seed range calls (length out)) ≡ true
     → 5 * calls ≤ length answers
     → PlayedLoad seed range calls (take (value_of (load_answer seed range calls (length out))) (load_output seed range calls out)) answers
+
+-- ---- examples
+
+-- the first steps of seed 1, and the load of seed 1, range 1 and eight calls; the first calls of seed 83, of the other kinds, and their bytes;
+-- a buffer that just fits, one byte less; no calls; a seed of 0 before a range of 4, a range of 4 before a short buffer
+pub record LoadExamples : Type 0 where
+  pub steps : (stepped 1 ∷ stepped 270_369 ∷ stepped 67_634_689 ∷ []) ≡ (270_369 ∷ 67_634_689 ∷ 2_647_435_461 ∷ [])
+  pub calls :
+      load_calls 1 8
+      ≡ (read 16 0x10 ∷ read 16 0x00 ∷ advance 1_304 ∷ reset ∷ read 16 0xE8 ∷ read 16 0xE8 ∷ read 16 0x8C ∷ read 16 0x58 ∷ [])
+  pub others : load_calls 83 3 ≡ (trigger ∷ input 3 (neg_ℤ (pos 5_264_037)) ∷ write 16 0x64 0x6319 ∷ [])
+  pub bytes :
+      load_trace 83 2 3
+      ≡ (0x00 ∷ 0x05 ∷ 0x00 ∷ 0x41 ∷ 0x33 ∷ 0x33 ∷ 0x30 ∷ 0x02
+      ∷ 0x05 ∷ 0x00 ∷ 0x00
+      ∷ 0x03 ∷ 0x05 ∷ 0x00 ∷ 0x03 ∷ 0x5B ∷ 0xAD ∷ 0xAF ∷ 0xFF
+      ∷ 0x02 ∷ 0x07 ∷ 0x00 ∷ 0x10 ∷ 0x64 ∷ 0x00 ∷ 0x19 ∷ 0x63 ∷ 0x00 ∷ 0x00
+      ∷ [])
+  pub fits : load_answer 1 1 8 54 ≡ Ok 54
+  pub short : load_answer 1 1 8 53 ≡ Err NoRoom
+  pub empty : load_answer 1 0 0 8 ≡ Ok 8
+  pub seed_first : load_answer 0 4 0 0 ≡ Err BadSeed
+  pub range_next : load_answer 1 4 0 0 ≡ Err BadRange

@@ -1,6 +1,8 @@
 // A load: a trace of calls made from a seed, the same on every machine.
 #![tactic(auto)]
 
+pub mod theorems;
+
 ghost use Rattle.std.specs.Prelude.{◌≡◌, ◌++◌, ℕ, ◌+◌, ◌/◌, ◌≤◌, length, drop};
 ghost use Rattle.std.specs.Option.{SomeIff};
 ghost use Rattle.trace.specs.Fields.{field_bytes};

@@ -52,25 +52,28 @@ module _ (b : Board) (bits at : ℕ) where
   unfolding call_questions
   write_refused value e = asked_then (access_questions bits at (class_of at)) _ e
 
-  module _ (a : Access) (is : IsAccess bits at a) where
-    pub read_asked : asked (questions_of b (read bits at)) ≡ asked (question BadDirection (is_readable a.register) ∷ [])
+  module _ (a : Access) (is : IsAccess bits at a) (register : Register) (found : register ≡ class_of a.offset) where
+    class_is : register ≡ class_of at
+    class_is = found ∙ ap class_of is.offset
+
+    pub read_asked : asked (questions_of b (read bits at)) ≡ asked (question BadDirection (is_readable register) ∷ [])
     unfolding call_questions
     read_asked =
         asked_then (access_questions bits at (class_of at)) _ is.met
-        ∙ ap (λ (r : Register). asked (question BadDirection (is_readable r) ∷ [])) (sym is.register)
+        ∙ ap (λ (r : Register). asked (question BadDirection (is_readable r) ∷ [])) (sym class_is)
 
-    pub read_board : after_read a.register b ≡ after_call b (read bits at)
+    pub read_board : after_read register b ≡ after_call b (read bits at)
     unfolding after_call
-    read_board = ap (λ (r : Register). after_read r b) is.register
+    read_board = ap (λ (r : Register). after_read r b) class_is
 
-    pub read_value : read_bytes (bits_of a.width) a.offset (read_word (view_of b) a.register) ≡ value_of_call b (read bits at)
+    pub read_value : read_bytes (bits_of a.width) a.offset (read_word (view_of b) register) ≡ value_of_call b (read bits at)
     unfolding value_of_call
     read_value = grind arith
 
-    module _ (value : ℕ) (w : WordWrite) (same_register : w.register ≡ a.register)
-        (written : w.word ≡ written_word (bits_of a.width) a.offset value (held_word b.registers b.gains a.register)) where
+    module _ (value : ℕ) (w : WordWrite) (same_register : w.register ≡ register)
+        (written : w.word ≡ written_word (bits_of a.width) a.offset value (held_word b.registers b.gains register)) where
       register_is : w.register ≡ class_of at
-      register_is = same_register ∙ is.register
+      register_is = same_register ∙ class_is
 
       word_is : w.word ≡ resulting_word b.registers b.gains bits at value
       word_is = grind arith

@@ -9,7 +9,7 @@ use lib.Dec.{eqb}
 use Rattle.pmc330_model.specs.Board.{advanced, stores_in}
 use Rattle.pmc330_model.specs.declared.Board.{Board}
 use Rattle.pmc330_model.proofs.Jumps.{repeat_board, repeat_stores}
-use Rattle.pmc330_model.proofs.Theorems.{advanced_add, stores_add}
+use Rattle.pmc330_model.proofs.Sentences.{advanced_add, stores_add}
 use Rattle.pmc330.specs.Steps.{IgnoresParity}
 use Rattle.pmc330.proofs.TimeLaws.{Partway, part_fits, part_on, advanced_fixed}
 use Rattle.pmc330.proofs.TurnLaws.{turned, advanced_turned, stores_turned, turns_board, turns_stores}

@@ -16,7 +16,7 @@ use Rattle.pmc330_model.specs.declared.Cycle.{Cycle}
 use Rattle.pmc330_model.specs.declared.Board.{Board}
 use Rattle.pmc330_model.specs.Jumps.{elapsed_by, jumped}
 use Rattle.pmc330_model.proofs.Jumps.{Within, jump_board, jump_stores, idle_board, idle_stores, stores_most}
-use Rattle.pmc330_model.proofs.Theorems.{advanced_add, stores_add}
+use Rattle.pmc330_model.proofs.Sentences.{advanced_add, stores_add}
 use Rattle.pmc330.specs.Steps.{step_to, Kept}
 use Rattle.pmc330.specs.declared.held.Core.{Core}
 use Rattle.pmc330.specs.declared.stores.Mailboxes.{Mailboxes}

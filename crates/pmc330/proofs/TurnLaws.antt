@@ -8,7 +8,7 @@ use Rattle.pmc330_model.specs.Schedule.{is_single, is_differential}
 use Rattle.pmc330_model.specs.Board.{with_cycle, stored, begun, elapsed, is_store_due, is_beginning_due, stored_in_time, stored_if_due, begun_if_due, ticked, advanced, stores_in}
 use Rattle.pmc330_model.specs.declared.Board.{Board}
 use Rattle.pmc330_model.proofs.Schedule.{odd_next}
-use Rattle.pmc330_model.proofs.Theorems.{advanced_add, stores_add}
+use Rattle.pmc330_model.proofs.Sentences.{advanced_add, stores_add}
 use Rattle.pmc330.specs.Steps.{board_on, turned_cycle, turned_core, IgnoresParity, Unmoved}
 use Rattle.pmc330.specs.declared.cycle.Channels.{Channels}
 use Rattle.pmc330.specs.declared.held.Core.{Core}

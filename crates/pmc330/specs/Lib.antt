@@ -1,3 +1,4 @@
 pub mod Fields
 pub mod Widths
 pub mod Steps
+pub mod Classes

@@ -22,5 +22,4 @@ width_of bits = cond (eqb bits 8) (Ok Byte) (cond (eqb bits 16) (Ok Half) (cond 
 pub record IsAccess (bits at : ℕ) (a : Access) : Type 0 where
   pub width : bits_of a.width ≡ bits
   pub offset : a.offset ≡ at
-  pub register : a.register ≡ class_of at
   pub met : asked (access_questions bits at (class_of at)) ≡ Ok record {}

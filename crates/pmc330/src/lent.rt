@@ -68,9 +68,9 @@ pub fn read(
     ensures board { board_in words.now inputs.now gains.now codes.now unread.new ≡ (read_call (board_in words.now inputs.now gains.now codes.now unread.old) width offset).board }
 {
     let access = Access::of(width, offset)?;
-    let register = access.register;
-    questions::of_read(register)?;
     let core = Core::from(words);
+    let register = access.register();
+    questions::of_read(register)?;
     let word = map_words::read_word(core.registers, core.pending, gains, codes, unread, register);
     after_read(unread, register);
     Ok(access.read_bytes(word))

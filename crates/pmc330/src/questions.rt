@@ -16,12 +16,11 @@ use crate::{fields, map};
 use analog::Refusal;
 use pmc330_model::{Register, Registers};
 
-// A read or a write of which questions 1 to 3 are met, and the register at its offset.
+// A read or a write of which questions 1 to 3 are met.
 #[derive(Clone, Copy)]
 pub(crate) struct Access {
     pub width: Width,
     pub offset: u32,
-    pub register: Register,
 }
 
 // One question of a call: a no refuses it.
@@ -32,19 +31,25 @@ fn ask(met: bool, refusal: Refusal) -> Result<(), Refusal>
 }
 
 impl Access {
-    // Questions 1 to 3, of any numbers: here they become a width and a register.
+    // Questions 1 to 3, of any numbers: here they become a width and a mapped offset.
     pub(crate) fn of(width: u32, offset: u32) -> Result<Self, Refusal>
         ensures { MatchResult result (IsAccess width offset) (λ refusal. asked (access_questions width offset (class_of offset)) ≡ Err refusal) }
     {
         let width = Width::try_from(width)?;
         ask(width.is_aligned(offset), Refusal::BadOffset)?;
-        let register = map::register_at(offset);
-        ask(!matches!(register, Register::Unmapped), Refusal::Unmapped)?;
-        Ok(Access {
-            width,
-            offset,
-            register,
-        })
+        ask(
+            !matches!(map::register_at(offset), Register::Unmapped),
+            Refusal::Unmapped,
+        )?;
+        Ok(Access { width, offset })
+    }
+
+    // The register at its offset, looked up where it is used: the compiler then goes by the table's byte, and works out a slot
+    // for a mailbox alone (tried: kept here, a match of the byte and one of the register follow each other).
+    pub(crate) fn register(self) -> Register
+        ensures { result ≡ class_of self.offset }
+    {
+        map::register_at(self.offset)
     }
 }
 

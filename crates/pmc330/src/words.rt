@@ -1,5 +1,6 @@
 // What the words of the register map hold, and what a read or a write of any width covers of them.
 ghost use Rattle.std.specs.Prelude.{cond, ◌≡◌, ◌+◌, ◌-◌, ◌*◌, ◌/◌, ◌%◌, ◌^◌, ◌≤◌, ◌<◌, leb, get_or, length, ℕ};
+ghost use Rattle.pmc330_model.specs.Map.{class_of};
 ghost use Rattle.pmc330_model.specs.Words.{joined, to_bit, held_word, read_word, read_bytes, written_byte, written_word, with_word, gains_from, gains_with, is_release, is_stop, is_start};
 ghost use Rattle.pmc330.specs.Steps.{view_in};
 ghost use Rattle.pmc330.specs.Widths.{bits_of};
@@ -210,14 +211,15 @@ impl Access {
     // The write of a whole word that a write of a value comes to.
     #[tactic(auto, unfolding(pmc330_model::specs::Words::written_word))]
     pub(crate) fn word_write(self, r: Registers, gains: &[u8; 32], value: u32) -> WordWrite
-        ensures register { result.register ≡ self.register }
-        ensures word { result.word ≡ written_word (bits_of self.width) self.offset value (held_word r gains.now self.register) }
+        ensures register { result.register ≡ class_of self.offset }
+        ensures word { result.word ≡ written_word (bits_of self.width) self.offset value (held_word r gains.now (class_of self.offset)) }
     {
-        let old = held_word(r, gains, self.register);
+        let register = self.register();
+        let old = held_word(r, gains, register);
         let low = self.written_byte(value, old, 0);
         let high = self.written_byte(value, old, 1);
         WordWrite {
-            register: self.register,
+            register,
             word: u16::from_le_bytes([low, high]),
         }
     }

@@ -2,6 +2,7 @@
 #![tactic(auto)]
 
 mod board;
+pub mod theorems;
 
 ghost use Rattle.std.specs.Prelude.{◌≡◌, length};
 ghost use Rattle.analog.specs.Answers.{packed};

@@ -11,7 +11,7 @@ use Rattle.pmc330_model.specs.Board.{with_cycle, elapsed, is_store_due, is_begin
 use Rattle.pmc330_model.specs.Jumps.{elapsed_by, jumped}
 use Rattle.pmc330_model.specs.declared.Cycle.{Cycle}
 use Rattle.pmc330_model.specs.declared.Board.{Board}
-use Rattle.pmc330_model.proofs.Theorems.{advanced_add, stores_add}
+use Rattle.pmc330_model.proofs.Sentences.{advanced_add, stores_add}
 
 -- n ticks reach at most the end of a countdown, if one runs
 abbrev pub Within : (n count : ℕ) → Type 0

@@ -11,13 +11,14 @@ pub mod TickBegins
 pub mod Ticks
 pub mod Replies
 pub mod Reading
+pub mod Cycles
 pub mod Scheduled
 pub mod Related
 pub mod Starts
 pub mod Triggers
 pub mod Writes
 pub mod CallsAgree
-pub mod Theorems
+pub mod Sentences
 pub mod Looks
 pub mod Waiting
 pub mod Jumps

@@ -21,7 +21,7 @@ use Rattle.pmc330_model.specs.declared.Reply.{Reply}
 use Rattle.pmc330_model.proofs.Cases.{either_way}
 use Rattle.pmc330_model.proofs.Reading.{class_is, mailbox_at, word_met, look_agrees}
 use Rattle.pmc330_model.proofs.Replies.{accepted_reply}
-use Rattle.pmc330_model.proofs.Theorems.{after}
+use Rattle.pmc330_model.proofs.Sentences.{after}
 use Rattle.std.specs.Prelude.{Ok}
 
 -- a slot of the board meets question 22

@@ -18,7 +18,7 @@ use Rattle.pmc330_model.specs.Jumps.{elapsed_by, is_store_next, is_crowded, stor
 use Rattle.pmc330_model.specs.declared.Registers.{Registers}
 use Rattle.pmc330_model.specs.declared.Cycle.{Cycle}
 use Rattle.pmc330_model.specs.declared.Board.{Board}
-use Rattle.pmc330_model.proofs.Theorems.{stores_add, accepted_board, accepted_answer, accepted_value}
+use Rattle.pmc330_model.proofs.Sentences.{stores_add, accepted_board, accepted_answer, accepted_value}
 use Rattle.pmc330_model.proofs.Countdowns.{Fitting, Near, Bounded, either_most, list_bounded}
 use Rattle.pmc330_model.proofs.Jumps.{Within, jump_board, jump_stores, idle_stores, untimed_stores}
 use Rattle.std.specs.Prelude.{Ok}

@@ -1,7 +1,7 @@
 -- The schedule by passes: a conversion begins a whole number of passes after the one at its place in the first of them.
 use mathlib.Core.Bool.{Bool, true, false, cond, ◌&&◌}
 use mathlib.Core.Logic.{⊎_elim}
-use mathlib.Core.Path.{◌≡◌, refl, sym, ap, ap₂, ◌∙◌}
+use mathlib.Core.Path.{◌≡◌, sym, ap, ap₂, ◌∙◌}
 use Prim.Native.Nat.{ℕ, suc, ◌+◌, ◌-◌, ◌*◌, ◌/◌, ◌%◌, ◌≤◌, ◌<◌}
 use native.Mathlib.Nat.{add-mul, mul_assoc, suc-mul, zero-mul, mul-le-mul_right, div-add-mod', div-lt_iff_lt-mul, mul-add-div_right, mul-add-mod_self_right, mod-lt, mod-eq_of_lt, div-eq_of_lt}
 use native.Mathlib.Omega.{arith}
@@ -45,6 +45,12 @@ module _ (r : Registers) where
   abbrev place_ticks : ℕ → ℕ
   place_ticks place = cond (is_uniform r) ((place + 1) * interval r) (120 * place)
 
+  -- a conversion begins within its pass
+  place_within : (place : ℕ) → place < m → place_ticks place ≤ pass_ticks r
+  place_within place h =
+      let places : (place + 1) * interval r ≤ m * interval r = mul-le-mul_right (interval r) (omega arith) in
+      grind (arith, places)
+
   uniform_closed : (k I : ℕ) → (k + 1) * I ≡ k / m * (m * I) + (k % m + 1) * I
   uniform_closed k I =
       let parts : k * I ≡ k / m * (m * I) + k % m * I = sym (ap (λ (n : ℕ). n * I) (div-add-mod' k m)) ∙ add-mul (k / m * m) (k % m) I ∙ ap (λ (n : ℕ). n + k % m * I) (mul_assoc (k / m) m I) in
@@ -53,18 +59,7 @@ module _ (r : Registers) where
   -- one closed form for both modes: whole passes, and the place in the pass
   closed : (k : ℕ) → begins_at r k ≡ k / m * pass_ticks r + place_ticks (k % m)
   unfolding begins_at
-  closed k = go (is_uniform r)
-    where
-      go : (u : Bool) → cond u ((k + 1) * interval r) (k / m * (120 * m + burst_delay r) + 120 * (k % m)) ≡ k / m * cond u (m * interval r) (120 * m + burst_delay r) + cond u ((k % m + 1) * interval r) (120 * (k % m))
-      go true = uniform_closed k (interval r)
-      go false = refl
-
-  place_within : (place : ℕ) → place < m → place_ticks place ≤ pass_ticks r
-  place_within place h = go (is_uniform r)
-    where
-      go : (u : Bool) → cond u ((place + 1) * interval r) (120 * place) ≤ cond u (m * interval r) (120 * m + burst_delay r)
-      go true = mul-le-mul_right (interval r) (omega arith)
-      go false = omega arith
+  closed k = grind (arith, uniform_closed k (interval r))
 
   -- n passes later
   module _ (n q i : ℕ) where

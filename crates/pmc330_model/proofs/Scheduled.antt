@@ -1,27 +1,27 @@
 -- The stores of a logbook are those of the schedule, and its ticks those of the accepted advances.
-use mathlib.Core.Bool.{Bool, true, false, not, cond, ◌&&◌}
+use mathlib.Core.Bool.{Bool, true, false, not, cond, ◌&&◌, ◌||◌}
 use mathlib.Core.List.{List, [], ◌∷◌}
 use mathlib.Core.Logic.{⊎_elim}
 use mathlib.Core.Path.{◌≡◌, refl, sym, ap, subst, ◌∙◌}
-use Prim.Native.Nat.{ℕ, zero, suc, ◌+◌, ◌-◌, ◌≤◌, ◌<◌}
-use native.Mathlib.Nat.{add-zero, add-suc, suc-add}
+use Prim.Native.Nat.{ℕ, zero, suc, ◌+◌, ◌-◌, ◌%◌, ◌≤◌, ◌<◌}
+use native.Mathlib.Nat.{add-zero, add-suc, suc-add, mod-eq_of_lt}
 use native.Mathlib.Omega.{arith}
-use lib.Dec.{eqb, leb}
+use lib.Dec.{eqb, ltb, leb}
 use lib.ListN.{length}
-use borrow.Author.Tests.{eq-eqb, ne_eqb, eqb-true, le-leb, leb-true}
+use borrow.Author.Tests.{eq-eqb, eqb-true, lt-ltb, ltb-true, le-leb, leb-true}
 use Rattle.std.proofs.lemmas.Bool.{cases_lt, cases_Bool, and_parts}
 use Rattle.analog.specs.Answers.{first_no, all_met}
-use Rattle.analog.proofs.AnswerLaws.{none_first, some_first}
 use Rattle.pmc330_model.specs.Map.{class_of, trigger_field}
 use Rattle.pmc330_model.specs.declared.Register.{Register}
 use Rattle.pmc330_model.specs.Words.{is_release, is_stop, is_start}
-use Rattle.pmc330_model.specs.Schedule.{is_single, is_timed, is_trigger_only, channel_of, ends_pass, code_at, begins_at, is_scheduled, Due, none, conversion, or_else, first_from}
+use Rattle.pmc330_model.specs.Schedule.{pass_length, is_single, is_timed, is_trigger_only, channel_of, ends_pass, code_at, begins_at, is_scheduled, Due, none, conversion, or_else, first_from}
 use Rattle.pmc330_model.specs.Calls.{Call, read, write, advance, trigger, reset}
 use Rattle.pmc330_model.specs.Questions.{call_questions, resulting_word, has_channels, has_interval}
-use Rattle.pmc330_model.specs.Logbook.{Event, Running, idle, since, release, was_read, Logbook, with_happened, begins, stores, due_after, if_due, begins_due, tick_passes, ticks_pass, starts, is_taken, stores_before, takes, arms_by_trigger, triggered_in, trigger_comes, read_event, writes, happens, is_idle, logbook_questions, logged}
-use Rattle.pmc330_model.specs.Sentences.{InCycle, may_store, stores_among, Scheduled, is_timeless, EveryTick}
+use Rattle.pmc330_model.specs.Logbook.{Event, Running, idle, since, release, was_read, Logbook, with_happened, begins, stores, due_after, if_due, stores_in_time, stores_due, begins_due, tick_passes, ticks_pass, starts, is_taken, stores_before, takes, arms_by_trigger, triggered_in, trigger_comes, read_event, writes, happens, is_idle, logbook_questions, logged}
+use Rattle.pmc330_model.specs.Sentences.{last_conversion, InCycle, may_store, stores_among, Scheduled, is_timeless, EveryTick}
 use Rattle.pmc330_model.specs.declared.Registers.{Registers}
 use Rattle.pmc330_model.proofs.Agreement.{Startable}
+use Rattle.pmc330_model.proofs.Cycles.{accepted_is, refused_is, cycle_starts, bits_clear, cycle_ends, no_start, cycle_stays, events}
 use Rattle.pmc330_model.proofs.Due.{due_found, due_none, unscheduled_later, scheduled_next}
 use Rattle.pmc330_model.proofs.QuestionLaws.{running_unstarted}
 use Rattle.pmc330_model.proofs.Schedule.{before, search_none}
@@ -72,6 +72,24 @@ pub tick_is : (l : Logbook) (due : Due) → due_after 64 l.registers (suc l.tick
 unfolding tick_passes
 tick_is l due e = grind arith
 
+-- a tick moves the tick, the code, the cycle and the events alone
+abbrev moved : Logbook → (stored due : Due) → Logbook
+moved l stored due = if_due due begins (if_due stored stores_in_time (next l))
+
+moved_is :
+    (l : Logbook) (stored due : Due)
+    → moved l stored due ≡ with_happened l (suc l.tick) (moved l stored due).taken (moved l stored due).cycle (moved l stored due).events
+moved_is l none none = refl
+moved_is l none (conversion k) = refl
+moved_is l (conversion j) none = refl
+moved_is l (conversion j) (conversion k) = refl
+
+tick_keeps : (l : Logbook) → tick_passes l ≡ with_happened l (suc l.tick) (tick_passes l).taken (tick_passes l).cycle (tick_passes l).events
+unfolding tick_passes
+tick_keeps l =
+    let made : Logbook = stores_due (next l) in
+    moved_is l (due_after 64 l.registers (suc l.tick) l.cycle) (due_after 0 made.registers made.tick made.cycle)
+
 -- the code that the tick takes, by what begins at it once the store is made
 tick_taken :
     (l : Logbook) (stored due : Due) → due_after 64 l.registers (suc l.tick) l.cycle ≡ stored
@@ -96,6 +114,21 @@ unfolding due_after
 idle_due delay r tick cycle e = ap (due_after delay r tick) e
 
 -- ---- a timed cycle
+
+-- the last conversion of the first pass ends it, and in a single mode no other does
+last_ends : (r : Registers) → ends_pass r (last_conversion r) ≡ true
+last_ends r =
+    let inside : last_conversion r < pass_length r = omega arith in
+    eq-eqb (last_conversion r % pass_length r + 1) (pass_length r) (omega (arith, mod-eq_of_lt inside))
+
+single_last :
+    (r : Registers) → is_single r ≡ true → (j : ℕ) → is_scheduled r j ≡ true → ends_pass r j ≡ true
+    → j ≡ last_conversion r
+single_last r single j scheduled last =
+    let within : ltb j (pass_length r) ≡ true = subst (λ (t : Bool). (is_timed r && (not t || ltb j (pass_length r))) ≡ true → ltb j (pass_length r) ≡ true) (sym single) (λ h. (and_parts (is_timed r) (ltb j (pass_length r)) h).1) scheduled in
+    let inside : j < pass_length r = ltb-true j (pass_length r) within in
+    let ends : j % pass_length r + 1 ≡ pass_length r = eqb-true _ _ last in
+    omega (arith, mod-eq_of_lt inside)
 
 module _ (l : Logbook) (T : ℕ) (triggers : List ℕ) (running : l.cycle ≡ since T triggers) (timed : is_timed l.registers ≡ true)
     (startable : Startable l.registers) where
@@ -174,6 +207,32 @@ module _ (l : Logbook) (T : ℕ) (triggers : List ℕ) (running : l.cycle ≡ si
       go true = idle_due 0 r (suc l.tick) idle refl
       go false = none_now 0 (λ k scheduled at. fails k scheduled (sym (add-zero (T + begins_at r k)) ∙ at))
 
+  -- the last store of a single mode, and no other, ends the cycle
+  ended :
+      is_single r ≡ true → T + begins_at r (last_conversion r) + 64 ≡ suc l.tick → (tick_passes l).cycle ≡ idle
+  ended single at =
+      (tick_is l (conversion (last_conversion r)) (found_now 64 (last_conversion r) scheduled at)).cycle ∙ rw (single, last_ends r) refl
+    where
+      scheduled : is_scheduled r (last_conversion r) ≡ true
+      scheduled = rw (timed, single) (lt-ltb (last_conversion r) (pass_length r) (omega arith))
+
+  unended :
+      (is_single r ≡ true → T + begins_at r (last_conversion r) + 64 ≡ suc l.tick → ⊥) → (tick_passes l).cycle ≡ l.cycle
+  unended fails = go (due_after 64 r (suc l.tick) l.cycle) refl
+    where
+      goes : (j : ℕ) → is_scheduled r j ≡ true → T + begins_at r j + 64 ≡ suc l.tick → (single last : Bool) → is_single r ≡ single → ends_pass r j ≡ last → (single && last) ≡ false
+      goes j scheduled at true true s e =
+          absurd (fails s (subst (λ (k : ℕ). T + begins_at r k + 64 ≡ suc l.tick) (single_last r s j scheduled e) at))
+      goes j scheduled at true false s e = refl
+      goes j scheduled at false last s e = refl
+
+      go : (due : Due) → due_after 64 r (suc l.tick) l.cycle ≡ due → (tick_passes l).cycle ≡ l.cycle
+      go none e = (tick_is l none e).cycle
+      go (conversion j) e =
+          let stored = real 64 (suc l.tick) j (sym (ap (due_after 64 r (suc l.tick)) running) ∙ e) in
+          (tick_is l (conversion j) e).cycle
+          ∙ ap (λ (t : Bool). cond t idle l.cycle) (goes j stored.0 stored.1 (is_single r) (ends_pass r j) refl refl)
+
   in_cycle : InCycle l T triggers
   in_cycle =
       record {
@@ -184,6 +243,9 @@ module _ (l : Logbook) (T : ℕ) (triggers : List ℕ) (running : l.cycle ≡ si
         unstored = λ fails. (tick_is l none (none_now 64 fails)).events;
         begun = begun;
         unbegun = unbegun;
+        ended = ended;
+        unended = unended;
+        else_kept = tick_keeps l;
       }
 
 -- ---- a call: what it leaves as it is
@@ -448,6 +510,12 @@ pub scheduled :
     (l : Logbook) → ((T : ℕ) (triggers : List ℕ) → l.cycle ≡ since T triggers → Startable l.registers) → Scheduled l
 scheduled l startable =
     record {
+      cycle_starts = cycle_starts l;
+      bits_clear = bits_clear l;
+      cycle_ends = cycle_ends l;
+      no_start = no_start l;
+      cycle_stays = cycle_stays l;
+      events = events l;
       started = λ call T triggers e f. subst (StartedAt l.tick (triggers_at_first l call)) f (started_there l call e);
       kept = λ call T later triggers more e f. subst (RunsSince T) f (kept_since l call T triggers e);
       timed = λ T triggers running timed. in_cycle l T triggers running timed (startable T triggers running);
@@ -482,8 +550,7 @@ ticks_passed (suc n) l = ticks_passed n (tick_passes l) ∙ rw (tick_is l _ refl
 advance_passed : (l : Logbook) (n : ℕ) → all_met (logbook_questions l (advance n)) ≡ true → logged l (advance n) ≡ ticks_pass n l
 unfolding logged happens
 advance_passed l n met =
-    ap (λ (t : Bool). cond t (ticks_pass n l) l)
-    (eq-eqb (first_no (logbook_questions l (advance n))) 0 (none_first (logbook_questions l (advance n)) met))
+    accepted_is l (advance n) met
 
 pub ticks_counted_lem : EveryTick
 unfolding logged happens
@@ -491,9 +558,6 @@ ticks_counted_lem l =
     record {
       passed = advance_passed l;
       advanced = λ n met. ap (λ (after : Logbook). after.tick) (advance_passed l n met) ∙ ticks_passed n l;
-      refused = λ call unmet.
-          ap (λ (t : Bool). cond t (happens l call) l)
-          (ne_eqb (first_no (logbook_questions l call)) 0 (λ none.
-          omega (arith, some_first (logbook_questions l call) unmet)));
+      refused = refused_is l;
       others = λ call timeless. either (λ after. after.tick ≡ l.tick) l call (λ met. timeless_tick l call timeless) refl;
     }

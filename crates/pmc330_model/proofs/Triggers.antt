@@ -24,7 +24,7 @@ use Rattle.pmc330_model.proofs.Related.{unchanged, both}
 use Rattle.pmc330_model.proofs.Stores.{slot_memory, store_of, stored_memory}
 
 -- a mode in time is not external trigger only
-timed_not_only : (r : Registers) → is_timed r ≡ true → is_trigger_only r ≡ false
+pub timed_not_only : (r : Registers) → is_timed r ≡ true → is_trigger_only r ≡ false
 timed_not_only r timed = grind arith
 
 -- external trigger only is scan 101: no timed mode, and question 10 asks nothing of it

@@ -7,7 +7,7 @@ use Prim.Native.Nat.{ℕ, zero, suc, ◌+◌, ◌-◌, ◌*◌, ◌/◌, ◌%◌
 use native.Mathlib.Nat.{eq-or-lt_of_le, add-zero, one-mul, mul-pos, mod-lt, mod-eq_of_lt, div-add-mod'}
 use native.Mathlib.Omega.{arith}
 use lib.Dec.{eqb}
-use borrow.Author.Tests.{eq-eqb, eqb-true, lt-ltb, le-leb, not-true}
+use borrow.Author.Tests.{eq-eqb, eqb-true, not-true}
 use Rattle.std.proofs.lemmas.Bool.{cases_Bool, and_parts, or_right}
 use Rattle.analog.specs.Answers.{first_no, all_met}
 use Rattle.analog.proofs.AnswerLaws.{some_first}
@@ -19,14 +19,15 @@ use Rattle.pmc330_model.specs.Schedule.{pass_length, is_differential, is_uniform
 use Rattle.pmc330_model.specs.Calls.{Call, read, write, input, advance, trigger, reset, look, clear}
 use Rattle.pmc330_model.specs.Questions.{is_allowed, resulting_word, call_questions}
 use Rattle.pmc330_model.specs.Logbook.{Event, Store, Running, idle, since, cycle_start, store, store_at, Logbook, stores, due_after, if_due, tick_passes, ticks_pass, starts, trigger_comes, writes, happens, is_idle, logbook_questions, logged, logged_from, new_logbook}
-use Rattle.pmc330_model.specs.Waiting.{stops_or_resets, runs_on, CycleList, at_start, at_end, registers_of, RunsContinuously, Span, covers, any_store, span_stores, Scanned, is_slot_of, ChannelWaits, EveryWait, slot_passes, EverySlotWait, EveryBurstWait, short_list, ShortMisses, NoShorterWait}
+use Rattle.pmc330_model.specs.Sentences.{stops_or_resets}
+use Rattle.pmc330_model.specs.Waiting.{runs_on, CycleList, at_start, at_end, registers_of, RunsContinuously, Span, covers, any_store, span_stores, Scanned, is_slot_of, ChannelWaits, EveryWait, slot_passes, EverySlotWait, EveryBurstWait, short_list, ShortMisses, NoShorterWait}
 use Rattle.pmc330_model.specs.Board.{board_after}
 use Rattle.pmc330_model.specs.declared.Registers.{Registers}
 use Rattle.pmc330_model.proofs.Agreement.{Startable}
 use Rattle.pmc330_model.proofs.Passes.{falls, later_begins, later_channel, later_slot, begins_within, stored_within, pass_some}
 use Rattle.pmc330_model.proofs.QuestionLaws.{running_allowed, running_unstarted}
 use Rattle.pmc330_model.proofs.Scheduled.{ends_cycle, next, tick_is, either, start_still, read_either, triggered, start_cycle, ticks_cycle, scheduled}
-use Rattle.pmc330_model.proofs.Theorems.{after, related_call, running_startable}
+use Rattle.pmc330_model.proofs.Sentences.{after, related_call, running_startable}
 use Rattle.pmc330_model.proofs.Writes.{enabled, startable_kept, kept_scan}
 
 -- ---- the stores of a list of events
@@ -57,6 +58,15 @@ module _ (test : Store → Bool) (s : Store) (events : List Event) where
   any_earlier : any_store test events ≡ true → any_store test (store s ∷ events) ≡ true
   unfolding any_store
   any_earlier e = or_right (test s) (any_store test events) e
+
+-- ---- what a span and a stop are
+
+-- a span covers the ticks after its first, up to its end
+covered : (t end tick : ℕ) → t < tick → tick ≤ end → covers t end tick ≡ true
+covered t end tick later within = grind arith
+
+reset_counts : (l : Logbook) → stops_or_resets l reset ≡ false → ⊥
+reset_counts l on = grind arith
 
 -- ---- the modes
 
@@ -135,7 +145,7 @@ module _ (r : Registers) (T : ℕ) (startable : Startable r) (continuous : is_co
         let in_cycle = here.timed T [] h.cycle (ap is_timed h.registers ∙ modes.timed) in
         let made = in_cycle.stored k (scheduled_here k) (rw (begins_same k) at) in
         subst (λ (events : List Event). any_store (is_store_of k) events ≡ true) (sym made)
-        (any_latest (is_store_of k) (store_next k) l.events (is_store k (store_next k) (slot_same k) (sym at)))
+        (any_latest (is_store_of k) (store_next k) l.events (is_store k (store_next k) (slot_same k) (omega (arith, at))))
 
     tick_runs : Runs (tick_passes l)
     tick_runs =
@@ -192,8 +202,7 @@ module _ (r : Registers) (T : ℕ) (startable : Startable r) (continuous : is_co
         → is_stop (class_of offset) (resulting_word l.registers l.gains width offset value) ≡ false
     accepted_write width offset value met on =
         ⊎_elim
-        (λ (all : all_met (logbook_questions l (write width offset value)) ≡ true).
-        subst (λ (t : Bool). (t && is_stop (class_of offset) (resulting_word l.registers l.gains width offset value)) ≡ false) all on)
+        (λ (all : all_met (logbook_questions l (write width offset value)) ≡ true). grind (arith, all, on))
         (λ (some : all_met (logbook_questions l (write width offset value)) ≡ false).
         absurd
         (omega (
@@ -218,7 +227,7 @@ module _ (r : Registers) (T : ℕ) (startable : Startable r) (continuous : is_co
     happens_runs (input channel microvolts) met on = still l _ refl refl refl (λ test. refl) h
     happens_runs (advance ticks) met on = ticks_run ticks l h
     happens_runs trigger met on = trigger_runs
-    happens_runs reset met on = cc
+    happens_runs reset met on = absurd (reset_counts l on)
     happens_runs (look slot) met on = h
     happens_runs (clear slot) met on = still l _ refl refl refl (λ test. refl) h
 
@@ -263,8 +272,7 @@ module _ (r : Registers) (T : ℕ) (startable : Startable r) (continuous : is_co
             (k : ℕ) (made : Store) → made.slot ≡ slot_of r k → made.tick ≡ T + begins_at r k + 64 → slots (slot_of r k) ≡ true
             → t < T + begins_at r k + 64 → T + begins_at r k + 64 ≤ t + (n * pass_ticks r + more)
             → (slots made.slot && covers t (t + (n * pass_ticks r + more)) made.tick) ≡ true
-        inside k made at when fit after by =
-            rw (at, fit, when, lt-ltb t (T + begins_at r k + 64) after, le-leb (T + begins_at r k + 64) (t + (n * pass_ticks r + more)) by) refl
+        inside k made at when fit after by = rw (at, fit, covered t (t + (n * pass_ticks r + more)) made.tick (rw when after) (rw when by)) refl
 
 -- ---- the call that starts a cycle
 

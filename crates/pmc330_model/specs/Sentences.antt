@@ -1,16 +1,16 @@
 -- The sentences of the data sheet, but for request A7's, which are in Waiting.antt. Each `Every..` is proved in
--- proofs/Theorems.antt, those of the next store in proofs/NextStores.antt, those of request A2 in proofs/Looks.antt.
-use Rattle.std.specs.Prelude.{ℕ, suc, ◌+◌, ◌-◌, ◌*◌, ◌/◌, ◌%◌, ◌≤◌, ◌<◌, Bool, true, false, cond, not, ◌&&◌, List, [], ◌∷◌, ◌≡◌, leb, length, Ok, Err}
+-- proofs/Sentences.antt, those of the next store in proofs/NextStores.antt, those of request A2 in proofs/Looks.antt.
+use Rattle.std.specs.Prelude.{ℕ, suc, ◌+◌, ◌-◌, ◌*◌, ◌/◌, ◌%◌, ◌≤◌, ◌<◌, Bool, true, false, cond, not, ◌&&◌, List, [], ◌∷◌, ◌++◌, ◌≡◌, eqb, leb, length, Ok, Err}
 use Rattle.analog.specs.Answers.{Question, all_met, value_of, is_accepted}
 use Rattle.analog.specs.Sentences.{AnsweredBy}
 use Rattle.analog.specs.Sums.{sum_of}
-use Rattle.pmc330_model.specs.Map.{trigger_field}
-use Rattle.pmc330_model.specs.Words.{bit_of, read_bytes}
-use Rattle.pmc330_model.specs.Schedule.{is_timed, is_trigger_only, channel_of, slot_of, ends_pass, code_at, begins_at, is_scheduled, conversion}
-use Rattle.pmc330_model.specs.Calls.{Call, read, advance, trigger, reset, look, clear}
-use Rattle.pmc330_model.specs.Questions.{call_questions, has_channels}
+use Rattle.pmc330_model.specs.Map.{if_mailbox, class_of, trigger_field}
+use Rattle.pmc330_model.specs.Words.{bit_of, read_bytes, is_release, is_stop, is_start}
+use Rattle.pmc330_model.specs.Schedule.{pass_length, is_burst, is_single, is_timed, is_trigger_only, channel_of, slot_of, ends_pass, code_at, begins_at, is_scheduled, conversion}
+use Rattle.pmc330_model.specs.Calls.{Call, read, write, advance, trigger, reset, look, clear}
+use Rattle.pmc330_model.specs.Questions.{call_questions, resulting_word, has_channels, has_interval}
 use Rattle.pmc330_model.specs.Board.{board_call, new_call, new_board, read_call, advance_call, look_call, clear_call, view_of, request_line, next_store, board_after, answers_of}
-use Rattle.pmc330_model.specs.Logbook.{Event, store, store_at, idle, since, is_idle, Logbook, last_store, stores_since, interrupted, with_happened, due_after, tick_passes, ticks_pass, logged, logbook_of, logbook_answers}
+use Rattle.pmc330_model.specs.Logbook.{Event, was_reset, cycle_start, release, was_read, store, store_at, idle, since, is_idle, Logbook, last_store, stores_since, interrupted, with_happened, due_after, tick_passes, ticks_pass, logbook_questions, logged, logbook_of, logbook_answers}
 use Rattle.pmc330_model.specs.declared.Registers.{Registers}
 use Rattle.pmc330_model.specs.declared.Board.{Board}
 use Rattle.analog.specs.declared.Refusal.TheVariants.{BadRange}
@@ -77,6 +77,10 @@ pub record Sentence3 (b : Board) (l : Logbook) : Type 0 where
 abbrev pub EveryList3 : Type 0
 EveryList3 = (range : ℕ) → range < 4 → (calls : List Call) → Sentence3 (board_after range calls) (logbook_of range calls)
 
+-- the last conversion of the first pass, and so of a single mode
+abbrev pub last_conversion : Registers → ℕ
+last_conversion r = pass_length r - 1
+
 -- "The stores are those of 01's schedule and no others." Of a logbook with a cycle of a timed mode, running since T:
 pub record InCycle (l : Logbook) (T : ℕ) (triggers : List ℕ) : Type 0 where
   -- what is due at a tick, after a delay, is conversion k exactly when k is scheduled and T + its beginning + the delay is that tick
@@ -103,6 +107,15 @@ pub record InCycle (l : Logbook) (T : ℕ) (triggers : List ℕ) : Type 0 where
   pub unbegun :
       ((k : ℕ) → is_scheduled l.registers k ≡ true → T + begins_at l.registers k ≡ suc l.tick → ⊥)
       → (tick_passes l).taken ≡ l.taken
+  -- a tick ends the cycle where it makes a single mode's last store, and at no other tick
+  pub ended :
+      is_single l.registers ≡ true → T + begins_at l.registers (last_conversion l.registers) + 64 ≡ suc l.tick
+      → (tick_passes l).cycle ≡ idle
+  pub unended :
+      (is_single l.registers ≡ true → T + begins_at l.registers (last_conversion l.registers) + 64 ≡ suc l.tick → ⊥)
+      → (tick_passes l).cycle ≡ l.cycle
+  -- and nothing else moves
+  pub else_kept : tick_passes l ≡ with_happened l (suc l.tick) (tick_passes l).taken (tick_passes l).cycle (tick_passes l).events
 
 -- the calls that may make a store: an advance, and a trigger in external trigger only
 abbrev pub may_store : Registers → Call → Bool
@@ -122,8 +135,67 @@ stores_among [] = []
 stores_among (store s ∷ earlier) = store s ∷ stores_among earlier
 stores_among (_ ∷ earlier) = stores_among earlier
 
--- Of a logbook: a cycle has its T from the call that begins it and keeps it, and a timed one is as above
+-- ---- when a cycle begins and ends
+
+-- The calls that start a cycle, which is a cycle start among the events: a write of Start Convert with bit 0 set, if it is accepted;
+-- while idle with trigger field 01, in scan 001 to 100, a trigger, if questions 9 and 10 are met
+abbrev pub starts_cycle : Logbook → Call → Bool
+starts_cycle l (write width offset value) =
+    all_met (logbook_questions l (write width offset value))
+    && is_start (class_of offset) (resulting_word l.registers l.gains width offset value)
+starts_cycle l trigger =
+    is_idle l.cycle
+    && eqb (trigger_field l.registers.control) 1
+    && is_timed l.registers
+    && has_channels l.registers
+    && has_interval l.registers
+starts_cycle l _ = false
+
+-- The calls that end one: a write of Control with scan 000, if it is accepted, and a reset
+abbrev pub stops_or_resets : Logbook → Call → Bool
+stops_or_resets l (write width offset value) =
+    all_met (logbook_questions l (write width offset value))
+    && is_stop (class_of offset) (resulting_word l.registers l.gains width offset value)
+stops_or_resets l reset = true
+stops_or_resets l _ = false
+
+-- the events of an accepted call that makes no store: the read of a mailbox, for which a clear counts as well, a release, a cycle
+-- start and a reset
+abbrev pub events_of : Logbook → Call → List Event
+events_of l (read width offset) = if_mailbox (class_of offset) (λ slot. was_read slot ∷ []) []
+events_of l (write width offset value) =
+    let word : ℕ = resulting_word l.registers l.gains width offset value in
+    cond (is_start (class_of offset) word) (cycle_start ∷ []) (cond (is_release (class_of offset) word) (release ∷ []) [])
+events_of l trigger = cond (starts_cycle l trigger) (cycle_start ∷ []) []
+events_of l reset = was_reset ∷ []
+events_of l (clear slot) = was_read slot ∷ []
+events_of l _ = []
+
+-- Of a logbook: when a cycle begins and ends. It has its T from the call that begins it and keeps it, and a timed one is as above
 pub record Scheduled (l : Logbook) : Type 0 where
+  -- A start: the cycle runs since this tick, no trigger is taken in it, and the cycle start is the one event. A burst takes
+  -- conversion 0's code. All else is as it was
+  pub cycle_starts :
+      (call : Call) → starts_cycle l call ≡ true
+      → logged l call
+      ≡ with_happened l l.tick
+      (cond (is_burst l.registers) (code_at l.range l.registers l.gains l.inputs (channel_of l.registers 0)) l.taken)
+      (since l.tick [])
+      (cycle_start ∷ l.events)
+  -- no New or Missed bit is set then
+  pub bits_clear : (call : Call) → starts_cycle l call ≡ true → (slot : ℕ) → stores_since slot (logged l call).events ≡ 0
+  -- a stop and a reset: no cycle runs
+  pub cycle_ends : (call : Call) → stops_or_resets l call ≡ true → (logged l call).cycle ≡ idle
+  -- outside external trigger only a trigger that starts no cycle changes nothing
+  pub no_start : is_trigger_only l.registers ≡ false → starts_cycle l trigger ≡ false → logged l trigger ≡ l
+  -- every other call keeps the cycle, but for the ticks of an advance and for a trigger in external trigger only, all said below
+  pub cycle_stays :
+      (call : Call) → starts_cycle l call ≡ false → stops_or_resets l call ≡ false → may_store l.registers call ≡ false
+      → (logged l call).cycle ≡ l.cycle
+  -- the events of a call that makes no store are its own and no others
+  pub events :
+      (call : Call) → all_met (logbook_questions l call) ≡ true → may_store l.registers call ≡ false
+      → (logged l call).events ≡ (events_of l call ++ l.events)
   -- a cycle begins with no trigger taken, or with the one that begins it: in external trigger only, 02, A4. An advance begins none
   pub started :
       (call : Call) (T : ℕ) (triggers : List ℕ) → l.cycle ≡ idle → (logged l call).cycle ≡ since T triggers
@@ -174,6 +246,16 @@ pub record Scheduled (l : Logbook) : Type 0 where
 
 abbrev pub EverySchedule : Type 0
 EverySchedule = (range : ℕ) → range < 4 → (calls : List Call) → Scheduled (logbook_of range calls)
+
+-- So after a start the board shows no New and no Missed bit, in any slot
+pub record BitsClear (b : Board) (s : ℕ) : Type 0 where
+  pub new_data : ReadsBit b (0x14 + 4 * (s / 16)) (s % 16) false
+  pub missed_data : ReadsBit b (0x1c + 4 * (s / 16)) (s % 16) false
+
+abbrev pub EveryStart : Type 0
+EveryStart =
+    (range : ℕ) → range < 4 → (calls : List Call) (call : Call) → starts_cycle (logbook_of range calls) call ≡ true
+    → (s : ℕ) → s < 32 → BitsClear (board_call (board_after range calls) call).board s
 
 -- "An accepted advance of n counts as n ticks, a refused call as none." These are the ticks one by one, with their stores
 pub record TicksCounted (l : Logbook) : Type 0 where

@@ -2,24 +2,13 @@
 -- channel in burst mode, and that no figure below 64 would hold for both modes. Stores are events of the logbook, to which
 -- sentences 2 and 3 hold the board. Proved in proofs/Waiting.antt.
 use Rattle.std.specs.Prelude.{ℕ, ◌+◌, ◌*◌, ◌≤◌, ◌<◌, Bool, true, false, cond, not, ◌&&◌, ◌||◌, List, [], ◌∷◌, ◌++◌, ◌≡◌, eqb, ltb, leb}
-use Rattle.analog.specs.Answers.{all_met}
-use Rattle.pmc330_model.specs.Map.{class_of}
-use Rattle.pmc330_model.specs.Words.{is_stop}
 use Rattle.pmc330_model.specs.Schedule.{is_uniform, is_burst, is_continuous, is_differential, slot_of, pass_ticks}
-use Rattle.pmc330_model.specs.Calls.{Call, write, advance, reset}
-use Rattle.pmc330_model.specs.Questions.{resulting_word}
-use Rattle.pmc330_model.specs.Logbook.{Event, was_reset, cycle_start, Store, store, Logbook, is_idle, logbook_questions, logged, logbook_of}
+use Rattle.pmc330_model.specs.Calls.{Call, write, advance}
+use Rattle.pmc330_model.specs.Logbook.{Event, was_reset, cycle_start, Store, store, Logbook, is_idle, logged, logbook_of}
+use Rattle.pmc330_model.specs.Sentences.{stops_or_resets}
 use Rattle.pmc330_model.specs.declared.Registers.{Registers}
 
 -- ---- the list
-
--- "stop or reset": 01's "An accepted Control write with scan 000 ends the cycle", and a reset. A refused call is neither
-abbrev pub stops_or_resets : Logbook → Call → Bool
-stops_or_resets l (write width offset value) =
-    all_met (logbook_questions l (write width offset value))
-    && is_stop (class_of offset) (resulting_word l.registers l.gains width offset value)
-stops_or_resets l reset = true
-stops_or_resets l _ = false
 
 -- whether no call of a list is a stop or reset
 unfoldable pub runs_on : Logbook → List Call → Bool

@@ -1,13 +1,15 @@
 // The records of the virtual board. Every definition about them is in specs/.
 #![tactic(auto)]
 
+pub mod theorems;
+
 use analog::Answer;
 
 // What a byte offset belongs to, document 01's "Register map". New Data and Missed Data have two words, Gain four, and there
 // are 32 mailboxes.
 #[derive(Clone, Copy, Debug, PartialEq, Eq)]
 pub enum Register {
-    // no register at all: the map gives every offset one of these, and with an Option each entry of its table would be a Some
+    // no register at all: the map gives every offset one of these, and with an Option its look-up would make a Some of each
     Unmapped,
     Interrupt,
     Control,

@@ -285,14 +285,22 @@ walked_front calls strays after_call field (whole fields) =
     let made : calls + length (calls_among (field ∷ fields)) ≡ calls + to_bit (is_call_tag field.tag) + length (calls_among fields) = omega (arith, calls_counted field fields) in
     ap₂ (λ (t : Bool) (m : ℕ). cond t (Err StrayAnswer) (Ok m)) (strays_front strays (is_answer_tag field.tag) after_call (none_strays (is_call_tag field.tag) fields)) made
 
-pub walk_turn :
+one_turn_on :
     (calls : ℕ) (strays after_call : Bool) (bytes : List ℕ) (tag : ℕ) (body after : List ℕ) → SplitsField bytes tag body after
     → walked calls strays after_call (fields_of bytes)
     ≡ walked (calls + to_bit (is_call_tag tag)) (strays || is_answer_tag tag && not after_call) (is_call_tag tag) (fields_of after)
-walk_turn calls strays after_call bytes tag body after s =
+one_turn_on calls strays after_call bytes tag body after s =
     ap (walked calls strays after_call) (a_field bytes s.later)
     ∙ walked_front calls strays after_call (first_field bytes) (fields_of (after_field bytes))
     ∙ sym (ap₂ (λ (tag : ℕ) (after : List ℕ). walked (calls + to_bit (is_call_tag tag)) (strays || is_answer_tag tag && not after_call) (is_call_tag tag) (fields_of after)) s.tag_same s.after_same)
+
+-- by what the turn counts
+pub walk_turn :
+    (calls : ℕ) (strays after_call : Bool) (bytes : List ℕ) (tag : ℕ) (body after : List ℕ) → SplitsField bytes tag body after
+    → (more : ℕ) (stray made : Bool) → more ≡ to_bit (is_call_tag tag) → stray ≡ (strays || is_answer_tag tag && not after_call) → made ≡ is_call_tag tag
+    → walked (calls + more) stray made (fields_of after) ≡ walked calls strays after_call (fields_of bytes)
+walk_turn calls strays after_call bytes tag body after s more stray made m t u =
+    (λ i. walked (calls + m i) (t i) (u i) (fields_of after)) ∙ sym (one_turn_on calls strays after_call bytes tag body after s)
 
 pub walk_end : (bytes : List ℕ) (calls : ℕ) (strays after_call : Bool) → length bytes ≡ 0 → walked calls strays after_call (fields_of bytes) ≡ cond strays (Err StrayAnswer) (Ok calls)
 unfolding none_strays call_fields

@@ -4,7 +4,8 @@ pub mod CheckLaws
 pub mod CallLaws
 pub mod PlayLaws
 pub mod ReplayLaws
-pub mod Theorems
+pub mod Sentences
 pub mod PassedOver
 pub mod RecordedLaws
 pub mod Replays
+pub mod Bench

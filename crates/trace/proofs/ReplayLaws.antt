@@ -2,12 +2,15 @@
 use mathlib.Core.Bool.{Bool, true, false, cond}
 use mathlib.Core.List.{List, [], ◌∷◌}
 use mathlib.Core.Path.{◌≡◌, refl, sym, ap, ◌∙◌}
-use Prim.Native.Nat.{ℕ, ◌+◌}
+use Prim.Native.Nat.{ℕ, ◌+◌, ◌%◌}
+use lib.Dec.{eqb}
+use borrow.Author.Tests.{eq-eqb}
+use Rattle.std.specs.Result.{result_unwrap_or}
 use native.Mathlib.Nat.{add-zero}
 use native.Mathlib.Numerals.{add-one}
 use lib.ListN.{get_or, drop}
 use lib.Seq.{get_or-drop, drop-drop}
-use Rattle.analog.specs.Answers.{Answer, first_no, asked}
+use Rattle.analog.specs.Answers.{Answer, first_no, asked, number_of}
 use Rattle.analog.specs.declared.Refusal.{Refusal}
 use Rattle.analog.proofs.AnswerLaws.{none_asked}
 use Rattle.pmc330_model.specs.Board.{board_call, new_board, answers_from, answers_of}
@@ -15,7 +18,7 @@ use Rattle.pmc330_model.specs.declared.Board.{Board}
 use Rattle.pmc330_model.specs.declared.Reply.{Reply}
 use Rattle.trace.specs.Grammar.{is_call_tag}
 use Rattle.trace.specs.Fields.{Field, range_of, fields_after, call_in, calls_among, calls_of}
-use Rattle.trace.specs.Replay.{is_equal, Comparison, answer_to, comparisons_from, first_difference, unless_refused, replayed}
+use Rattle.trace.specs.Replay.{recorded_number, recorded_value, is_equal, Comparison, answer_to, comparisons_from, first_difference, unless_refused, replayed}
 use Rattle.trace.specs.Play.{field_questions}
 use Rattle.trace.specs.declared.Replayed.{Replayed}
 use Rattle.trace.specs.declared.Replayed.TheVariants.{Agree, Differs}
@@ -28,6 +31,13 @@ answers_in trace start = answers_from start (calls_of trace)
 
 abbrev finds_on : (trace : List ℕ) (start : Board) → Replayed
 finds_on trace start = first_difference 0 (comparisons_from 0 (answers_in trace start) (fields_after trace))
+
+-- an answer and a body of the same number are equal by the low 16 bits of their values
+pub equal_by_values :
+    (answer : Answer) (body : List ℕ) → number_of answer ≡ recorded_number body → (value recorded : ℕ) → value ≡ result_unwrap_or answer 0 → recorded ≡ recorded_value body
+    → eqb (value % 65_536) (recorded % 65_536) ≡ is_equal answer body
+equal_by_values (Ok value) body number v r e f = rw (eq-eqb _ _ number, e, f) refl
+equal_by_values (Err refusal) body number v r e f = rw (eq-eqb _ _ number, e, f) refl
 
 -- where the replay stands: the comparisons that are left find what all of them find
 pub record Replaying (trace : List ℕ) (start board : Board) (rest : List Field) (index count : ℕ) (answer : Answer) : Type 0 where

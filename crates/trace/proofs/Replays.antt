@@ -15,7 +15,7 @@ use Rattle.analog.specs.declared.Refusal.{Refusal}
 use Rattle.analog.proofs.RefusalLaws.{number_some, number_small, same_refusal}
 use Rattle.analog.proofs.AnswerLaws.{Outcome, met, unmet, outcome, none_first}
 use Rattle.pmc330_model.specs.Board.{answers_of}
-use Rattle.pmc330_model.proofs.Theorems.{answers_agree}
+use Rattle.pmc330_model.proofs.Sentences.{answers_agree}
 use Rattle.trace.specs.Grammar.{is_call_tag}
 use Rattle.trace.specs.Fields.{Field, tag_of, range_of, fields_after, call_fields, answer_fields, calls_among, calls_of}
 use Rattle.trace.specs.Play.{answers_follow, field_questions}

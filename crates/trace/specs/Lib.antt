@@ -6,3 +6,4 @@ pub mod Sentences
 pub mod Stated
 pub mod Machine
 pub mod Walks
+pub mod Bench

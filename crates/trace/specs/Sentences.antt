@@ -1,4 +1,4 @@
--- The sentences of the data sheet on traces. They are proved in proofs/Theorems.antt (`traces_refused`, `traces_accepted`,
+-- The sentences of the data sheet on traces. They are proved in proofs/Sentences.antt (`traces_refused`, `traces_accepted`,
 -- `plays_packed`, `walks_enough`), proofs/PassedOver.antt (`answers_passed_over`) and proofs/Replays.antt (`replays_refused`, `replays_answered`,
 -- `replays_packed`).
 use Rattle.std.specs.Prelude.{ℕ, ◌+◌, ◌*◌, ◌/◌, ◌%◌, ◌<◌, Bool, true, false, cond, List, [], ◌∷◌, ◌++◌, ◌⊎◌, ◌≡◌, eqb, length, take, Ok, Err}

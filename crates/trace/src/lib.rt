@@ -3,6 +3,7 @@
 
 mod calls;
 mod fields;
+pub mod theorems;
 
 ghost use Rattle.std.specs.Prelude.{◌≡◌, ◌*◌, ◌≤◌, length};
 ghost use Rattle.pmc330_model.specs.Board.{answers_of};

@@ -1,3 +1,3 @@
 pub mod WindowLaws
-pub mod Theorems
+pub mod Sentences
 pub mod Examples

@@ -1,5 +1,5 @@
--- What the data sheet says of the running average. `windows_answered` in proofs/Theorems.antt proves it.
-use Rattle.std.specs.Prelude.{ℕ, suc, ◌≤◌, ◌<◌, true, false, List, ◌≡◌, length, get_or}
+-- What the data sheet says of the running average. `windows_answered` in proofs/Sentences.antt proves it.
+use Rattle.std.specs.Prelude.{ℕ, suc, ◌≤◌, ◌<◌, true, false, List, [], ◌∷◌, ◌≡◌, length, get_or, Ok}
 use Rattle.analog.specs.Answers.{all_met, value_of}
 use Rattle.analog.specs.Sentences.{AnsweredBy}
 use Rattle.analog.specs.Sums.{sum_of}
@@ -21,3 +21,11 @@ pub record SummedRun (n : ℕ) (codes output : List ℕ) : Type 0 where
 -- any length, any run, any output
 abbrev pub EveryWindow : Type 0
 EveryWindow = (n : ℕ) (codes output : List ℕ) → SummedRun n codes output
+
+-- an example: the codes 1 to 10 through a window of 8, into an output of ten places
+abbrev pub ten : List ℕ
+ten = 1 ∷ 2 ∷ 3 ∷ 4 ∷ 5 ∷ 6 ∷ 7 ∷ 8 ∷ 9 ∷ 10 ∷ []
+
+pub record WindowExample : Type 0 where
+  pub sums : window_output 8 ten ten ≡ (1 ∷ 3 ∷ 6 ∷ 10 ∷ 15 ∷ 21 ∷ 28 ∷ 36 ∷ 44 ∷ 52 ∷ [])
+  pub count : window_answer 8 ten ten ≡ Ok 8

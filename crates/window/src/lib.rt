@@ -1,6 +1,8 @@
 // The running average's window: after each code of a run, the sum of the last ones.
 #![tactic(auto)]
 
+pub mod theorems;
+
 ghost use Rattle.std.specs.Prelude.{◌++◌, ◌≡◌, ◌≤◌, length, drop};
 ghost use Rattle.analog.specs.Sums.{sum_of};
 ghost use Rattle.window.specs.Machine.{Filled};

@@ -2,7 +2,7 @@
 use mathlib.Core.Path.{ap, ◌∙◌}
 use lib.ListN.{length}
 use Rattle.analog.specs.Answers.{packed}
-use Rattle.trace.proofs.Theorems.{plays_packed}
+use Rattle.trace.proofs.Sentences.{plays_packed}
 use Rattle.pmc330_c.proofs.pmc330_play.Goals as goal
 
 pub returns-clause-result : goal.returns-clause-result

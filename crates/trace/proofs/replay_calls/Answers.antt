@@ -1,7 +1,7 @@
 -- Each turn goes by the laws of replaying, at the field that comes next.
 use mathlib.Core.Bool.{true}
 use mathlib.Core.List.{List, ◌∷◌}
-use mathlib.Core.Path.{◌≡◌, sym, ap, subst, ◌∙◌}
+use mathlib.Core.Path.{◌≡◌, sym, ap, ap₂, subst, ◌∙◌}
 use native.Mathlib.Omega.{arith}
 use Prim.Native.Nat.{ℕ, ◌+◌, ◌≤◌}
 use lib.ListN.{length, drop, length-drop}
@@ -9,6 +9,7 @@ use Rattle.pmc330_model.specs.Board.{board_call, new_board}
 use Rattle.std.specs.Prelude.{Ok}
 use Rattle.trace.specs.Fields.{Field, range_of, fields_of, fields_after, is_undamaged, listed}
 use Rattle.trace.specs.Stated.{byte_of}
+use Rattle.trace.specs.declared.Replayed.TheVariants.{Differs}
 use Rattle.trace.specs.declared.fields.LaterFields.{LaterFields}
 use Rattle.trace.proofs.CheckLaws.{walkable}
 use Rattle.trace.proofs.FieldBytes.{parsed}
@@ -61,7 +62,8 @@ is_equal-requires c = c.in-Some.field.whole ∙ answer_length _ (tag_later c.in-
 
 pub returns-then-not-is_equal : goal.returns-then-not-is_equal
 returns-then-not-is_equal c =
-    differs _ _ _ _ _ _ _ _ (replays (goal.at.returns-then-not-is_equal c).In-Some) c.in_default.ensures (sym c.is_equal.ensures ∙ c.if-not-is_equal.true)
+    ap₂ Differs (omega arith) (omega arith)
+    ∙ differs _ _ _ _ _ _ _ _ (replays (goal.at.returns-then-not-is_equal c).In-Some) c.in_default.ensures (sym c.is_equal.ensures ∙ c.if-not-is_equal.true)
 
 pub loop-field-preserved : goal.loop-field-preserved
 loop-field-preserved c =

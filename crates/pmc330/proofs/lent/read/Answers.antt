@@ -29,7 +29,7 @@ returns-in_err-of_read c =
     let p = err_from_is_err_and c.from_residual-in_err-of_read.result c.from_residual-in_err-of_read.ensures.1 in
     let r =
     refused b (read a.width a.offset) (p.1 ∙ ap Err p.2)
-    (read_asked b a.width a.offset _ c.in_ok-access.ensures ∙ sym c.in_err-of_read.ensures) in
+    (read_asked b a.width a.offset _ c.in_ok-access.ensures _ c.register-register.ensures ∙ sym c.in_err-of_read.ensures) in
     record { answer = r.0; board = r.1 }
 
 pub returns : goal.returns
@@ -38,15 +38,16 @@ returns c =
     let b = board_in a.words.now a.inputs.now a.gains.now a.codes.now a.unread.now in
     let access = c.in_ok-access in
     let is : IsAccess a.width a.offset access.access = access.ensures in
+    let register = c.register-register in
     let word = c.read_word-word in
-    let same = ap (λ (k : Core). read_word (view_in k.registers k.pending a.gains.now a.codes.now a.unread.now) access.access.register) c.from-core.ensures in
+    let same = ap (λ (k : Core). read_word (view_in k.registers k.pending a.gains.now a.codes.now a.unread.now) register.result) c.from-core.ensures in
     let r =
     accepted b (read a.width a.offset) _ _
-    (read_asked b a.width a.offset access.access is ∙ sym c.in_ok-of_read.ensures)
+    (read_asked b a.width a.offset access.access is register.result register.ensures ∙ sym c.in_ok-of_read.ensures)
     (ap (λ (l : List ℕ). board_in a.words.now a.inputs.now a.gains.now a.codes.now l) c.after_read.ensures
-    ∙ read_counts access.access.register b
-    ∙ read_board b a.width a.offset access.access is)
+    ∙ read_counts register.result b
+    ∙ read_board b a.width a.offset access.access is register.result register.ensures)
     (c.read_bytes.ensures
     ∙ ap (read_bytes (bits_of access.access.width) access.access.offset) (word.ensures ∙ same)
-    ∙ read_value b a.width a.offset access.access is) in
+    ∙ read_value b a.width a.offset access.access is register.result register.ensures) in
     record { answer = r.0; board = r.1 }

@@ -51,7 +51,7 @@ questions_left :
     → result ≡ asked (question BadValue (ltb c.args.value (2 ^ bits_of c.in_ok-access.access.width)) ∷ [])
     → asked (questions_of (board c) (write c.args.width c.args.offset c.args.value)) ≡ and_then result (later c)
 questions_left c told =
-    write_asked (board c) c.args.width c.args.offset c.in_ok-access.access c.in_ok-access.ensures c.args.value c.word_write-write.result c.word_write-write.ensures.register c.word_write-write.ensures.word
+    write_asked (board c) c.args.width c.args.offset c.in_ok-access.access c.in_ok-access.ensures _ refl c.args.value c.word_write-write.result c.word_write-write.ensures.register c.word_write-write.ensures.word
     ∙ ap (λ (result : Result ⊤ Refusal). and_then result (later c)) (sym told)
 
 pub returns-in_err-of_value : goal.returns-in_err-of_value
@@ -90,7 +90,7 @@ returns c =
     let r =
     accepted_in_place a.words.now a.inputs.now a.gains.now a.codes.now a.unread.now (write a.width a.offset a.value) core.result core.ensures next.result _ _ _ _ _ 0 narrow
     (questions_left at c.in_ok-of_value.ensures ∙ sym c.in_ok-of_word.ensures)
-    (next.ensures a.codes.now ∙ write_board (board at) a.width a.offset access.access access.ensures a.value c.word_write-write.result c.word_write-write.ensures.register c.word_write-write.ensures.word)
+    (next.ensures a.codes.now ∙ write_board (board at) a.width a.offset access.access access.ensures _ refl a.value c.word_write-write.result c.word_write-write.ensures.register c.word_write-write.ensures.word)
     refl
     c.into.ensures in
     record { answer = r.0; board = r.1.0; words = r.1.1 }

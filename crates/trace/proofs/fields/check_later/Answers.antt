@@ -1,5 +1,6 @@
 -- Each turn counts its field, and the end finds what is counted.
 use mathlib.Core.Bool.{Bool, true, false, not, ◌&&◌, ◌||◌, cond}
+use mathlib.Core.List.{List}
 use mathlib.Core.Path.{◌≡◌, refl, sym, ap, ap₂, ◌∙◌}
 use Prim.Native.Nat.{ℕ, ◌+◌}
 use native.Mathlib.Omega.{arith}
@@ -20,6 +21,13 @@ counted : (t : Bool) → bool_byte t ≡ to_bit t
 counted true = refl
 counted false = refl
 
+pub loop-field-init : goal.loop-field-init
+loop-field-init c =
+    record {
+      few = omega (arith, ap length c.of-fields.ensures, length-drop 8 c.args.trace.now);
+      same = ap₂ (λ (t : Bool) (rest : List ℕ). walked 0 false t (fields_of rest)) refl c.of-fields.ensures;
+    }
+
 pub loop-field-preserved : goal.loop-field-preserved
 loop-field-preserved c =
     let l = c.loop-field in
@@ -39,9 +47,7 @@ loop-field-preserved c =
     record {
       few = omega (arith, l.invariant.few, calls, bit_small (is_call_tag tag), ap length s.after_same, later_some bytes s.later, length-drop (3 + size_of bytes) bytes);
       same =
-          ap₂ (λ (n : ℕ) (t : Bool). walked (l.calls + n) t c.is_call-is_call.result (fields_of after)) calls strays
-          ∙ ap (λ (t : Bool). walked (l.calls + to_bit (is_call_tag tag)) (l.strays || is_answer_tag tag && not l.after_call) t (fields_of after)) is_call
-          ∙ sym (walk_turn l.calls l.strays l.after_call bytes tag _ after s)
+          walk_turn l.calls l.strays l.after_call bytes tag _ after s _ _ _ calls strays (grind (arith, is_call))
           ∙ l.invariant.same;
     }
 

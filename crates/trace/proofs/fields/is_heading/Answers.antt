@@ -2,6 +2,7 @@
 use mathlib.Core.Path.{◌≡◌, refl, sym, ◌∙◌}
 use mathlib.Core.Bool.{Bool, true, false}
 use native.Mathlib.Omega.{arith}
+use Rattle.std.proofs.Common.{rules}
 use lib.ListN.{length, drop}
 use borrow.Author.Tests.{leb-true}
 use Rattle.trace.specs.Fields.{is_heading}
@@ -14,7 +15,7 @@ use Rattle.trace.proofs.fields.is_heading.Goals.{then-trace-ge8, else-trace-ge8}
 pub returns-then-starts_with : goal.returns-then-starts_with
 returns-then-starts_with c =
     elim c.if-trace-ge8.branch [
-      | then-trace-ge8 w ↦ sym (heading_found c.args.trace.now w.if-trace-ge8.true ((starts_is Decides-eqb c.args.trace.now heading_front w.starts_with.result w.starts_with.ensures.value).0 (sym w.value-is ∙ c.if-starts_with.true)))
+      | then-trace-ge8 w ↦ search rules ∙ sym (heading_found c.args.trace.now w.if-trace-ge8.true ((starts_is Decides-eqb c.args.trace.now heading_front w.starts_with.result w.starts_with.ensures.value).0 (sym w.value-is ∙ c.if-starts_with.true)))
       | else-trace-ge8 w ↦ absurd (omega (arith, leb-true 8 (length c.args.trace.now) (sym w.value-is ∙ c.if-starts_with.true), w.if-trace-ge8.false))
     ]
 

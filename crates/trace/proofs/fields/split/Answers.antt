@@ -5,6 +5,7 @@ use native.Mathlib.Omega.{arith}
 use Prim.Native.Nat.{ℕ}
 use lib.ListN.{length, get_or, take, drop, length-drop}
 use lib.Seq.{drop-drop}
+use Rattle.std.proofs.lemmas.List.{take_rest}
 use Rattle.trace.specs.Grammar.{length_of, number_at}
 use Rattle.trace.specs.Fields.{tag_of, size_of, is_later_tag}
 use Rattle.trace.specs.Stated.{byte_of}
@@ -50,6 +51,6 @@ returns c =
           })
           (sym (ap is_later_tag (tag_is k)) ∙ tag_later c.in_ok-tag.tag);
       tag_same = tag_is k;
-      body_same = c.split_at.ensures.front ∙ ap₂ take (size_is k) rest;
-      after_same = c.split_at.ensures.back ∙ ap₂ drop (size_is k) rest ∙ drop-drop (size_of bytes) 3 bytes;
+      body_same = ap (λ (n : ℕ). take n (drop 3 bytes)) (omega (arith, size_is k));
+      after_same = take_rest c.in_ok-head.rest.now c.number-size.result ∙ ap₂ drop (size_is k) rest ∙ drop-drop (size_of bytes) 3 bytes;
     }

@@ -1,0 +1,5 @@
+use Rattle.pmc330_model.proofs.Waiting.{no_shorter_wait}
+use Rattle.pmc330_model.proofs.theorems.no_shorter_wait.Goals as goal
+
+pub returns : goal.returns
+returns c = no_shorter_wait

@@ -1,0 +1,5 @@
+use Rattle.pmc330_model.proofs.Waiting.{slot_waiting_time}
+use Rattle.pmc330_model.proofs.theorems.slot_waiting_time.Goals as goal
+
+pub returns : goal.returns
+returns c = slot_waiting_time

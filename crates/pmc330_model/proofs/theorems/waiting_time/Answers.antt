@@ -1,0 +1,5 @@
+use Rattle.pmc330_model.proofs.Waiting.{waiting_time}
+use Rattle.pmc330_model.proofs.theorems.waiting_time.Goals as goal
+
+pub returns : goal.returns
+returns c = waiting_time
