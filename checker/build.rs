@@ -44,7 +44,7 @@ fn archive_folder() -> PathBuf {
 }
 
 /// The header's own lines of C, which `tools/pmc330.c` makes callable, as Python calls them; and what
-/// `src/header.c` says of the header beside.
+/// `src/archive/header.c` says of the header beside.
 fn link_header() {
     println!(
         "cargo:rerun-if-changed={}",
@@ -52,7 +52,10 @@ fn link_header() {
     );
     let root = package().join("..");
     link_source("pmc330_lines", &root.join("tools").join("pmc330.c"));
-    link_source("pmc330_header", &package().join("src").join("header.c"));
+    link_source(
+        "pmc330_header",
+        &package().join("src").join("archive").join("header.c"),
+    );
 }
 
 fn include() -> PathBuf {

@@ -5,7 +5,7 @@
     trace_text.py decode < calls.trace
     trace_text.py record TRACE LINES > RECORDING
 
-The text: first `range N`, then one call a line, as document 01 writes them, and document 02's look and clear:
+The text: first `range N`, then one call a line:
 
     read WIDTH OFFSET
     write WIDTH OFFSET VALUE

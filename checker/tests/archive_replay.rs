@@ -1,17 +1,18 @@
-//! The archive's replay of recordings (02, A6) against the independent one, and its player on the same recordings
+//! The archive's replay of recordings against the independent one, and its player on the same recordings
 //! with and without their recorded answers.
 
 use checker::archive::{self, Player};
-use checker::cases;
-use checker::generator::hostile;
-use checker::random::seed_or;
-use checker::recordings::{answers_of, check_longest, made_up_recording, Recording};
-use checker::recordings::{RECORDINGS, SEED};
-use checker::replay::{recording, replay, Replayed};
-use checker::script::fields;
-use checker::short_lists::each_short_list;
-use checker::shortened::shortened;
-use checker::trace::{self, fields_of, trace_of, trace_of_fields, Field};
+use checker::board::replay::{recording, replay, Replayed};
+use checker::board::trace::{self, fields_of, trace_of, trace_of_fields, Field};
+use checker::cases::fields::REPLAYED;
+use checker::cases::script::fields;
+use checker::cases::{self, Case};
+use checker::draw::generator::hostile;
+use checker::draw::random::seed_or;
+use checker::draw::recordings::{answers_of, check_longest, made_up_recording, Recording};
+use checker::draw::recordings::{RECORDINGS, SEED};
+use checker::draw::short_lists::each_short_list;
+use checker::judge::shortened::shortened;
 
 /// What the archive and the independent program say of a trace that lies in memory of exactly its length.
 fn both(trace: &[u8]) -> (Replayed, Replayed) {
@@ -240,32 +241,31 @@ fn check_every_wrong_byte(index: u64, script: &str) {
 
 #[test]
 fn typed_in_recordings() {
-    for case in cases::REPLAYS {
-        let trace = trace_of_fields(case.range, &fields(case.script));
-        let found = Replayed::unpacked(archive::replay(&trace));
+    for case in cases::recordings() {
+        let found = Replayed::unpacked(archive::replay(&case.trace()));
         assert_eq!(found.to_string(), case.printed, "{}", case.name);
     }
 }
 
 #[test]
 fn typed_in_results() {
-    for (fields, result) in cases::REPLAYED {
+    for (fields, result) in REPLAYED {
         let trace = fields.concat();
         assert_eq!(archive::replay(&trace), *result, "{trace:02X?}");
     }
 }
 
-/// The typed-in cases of 01, 02 and the manuals, with the answers expected there as recorded ones: all agree.
+/// The typed-in cases, with the answers expected there as recorded ones: all agree.
 #[test]
 fn typed_in_cases_as_recordings() {
     for case in cases::all() {
-        let steps = case.steps();
+        let Case { name, steps, .. } = &case;
         let calls: Vec<_> = steps.iter().map(|step| step.call).collect();
         let recorded: Vec<_> = steps.iter().map(|step| Some(step.expected)).collect();
         let trace = trace_of_fields(case.range, &recording(&calls, &recorded));
         let count = steps.len() as u64;
-        let found = compare(case.name, &trace);
-        assert_eq!(found, Replayed::Agree { count }, "{}", case.name);
+        let found = compare(name, &trace);
+        assert_eq!(found, Replayed::Agree { count }, "{name}");
     }
 }
 

@@ -1,19 +1,22 @@
 //! The archive's player and replay against the independent ones: made-up traces, every heading, width, offset,
 //! slot and Control word. And typed-in cases and the longest trace on its player.
 
-use checker::analog::Answer;
 use checker::archive;
-use checker::before_arming::arms_by_trigger;
+use checker::board::analog::Answer;
+use checker::board::call::{Call, Calls, Step};
+use checker::board::replay::replay;
+use checker::board::trace::{
+    self, answer_of_bytes, decoded, field, has_answers, heading, trace_of,
+};
 use checker::board::Board;
-use checker::call::{Call, Step};
 use checker::cases;
-use checker::generator::hostile;
-use checker::made_up::{check_longest, made_up, SEED, TRACES};
-use checker::random::seed_or;
-use checker::replay::replay;
-use checker::script::steps;
-use checker::shortened::shortened;
-use checker::trace::{self, answer_of_bytes, decoded, field, has_answers, heading, trace_of};
+use checker::cases::fields::PLAYED;
+use checker::cases::script::steps;
+use checker::draw::generator::hostile;
+use checker::draw::made_up::{check_longest, made_up, SEED, TRACES};
+use checker::draw::random::seed_or;
+use checker::judge::before_arming::arms_by_trigger;
+use checker::judge::shortened::shortened;
 
 /// Bytes before and after the buffer that is lent; nobody may write them.
 const GUARD: usize = 64;
@@ -121,7 +124,7 @@ fn made_up_traces() {
     assert!(arming > 1_000 && recordings > 300);
 }
 
-/// How many triggers of a trace begin an armed cycle (02, A4).
+/// How many triggers of a trace begin an armed cycle.
 fn triggers_before_arming(trace: &[u8]) -> usize {
     let (range, calls) = decoded(trace).expect("it was played");
     let mut board = Board::new(range).0;
@@ -133,15 +136,14 @@ fn triggers_before_arming(trace: &[u8]) -> usize {
     calls.iter().filter(arms).count()
 }
 
-/// The cases of 01 and MANUALS.md: here the answers are typed in, not worked out.
+/// Here the answers are typed in, not worked out.
 #[test]
 fn typed_in_cases() {
     for case in cases::all() {
-        let steps = case.steps();
-        let calls: Vec<Call> = steps.iter().map(|step| step.call).collect();
+        let calls: Vec<Call> = case.steps.iter().map(|step| step.call).collect();
         let (result, buffer) = by_archive(&trace_of(case.range, &calls), &vec![7; 5 * calls.len()]);
         assert_eq!(result, 256 * calls.len() as u64, "{}", case.name);
-        for (index, step) in steps.iter().enumerate() {
+        for (index, step) in case.steps.iter().enumerate() {
             assert_eq!(
                 answer_of_bytes(&buffer[5 * index..]),
                 step.expected,
@@ -156,7 +158,7 @@ fn typed_in_cases() {
 
 #[test]
 fn typed_in_traces() {
-    for (fields, length, result) in cases::TRACES {
+    for (fields, length, result) in PLAYED {
         let trace = fields.concat();
         let before = vec![0xA5; *length];
         let (found, buffer) = by_archive(&trace, &before);

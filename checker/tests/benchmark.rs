@@ -1,8 +1,8 @@
 //! What the benchmark says of a load in a file, and that it refuses a file that is not that load. Times are not looked at.
 
-use checker::digest::fnv_1a;
-use checker::load::load;
-use checker::trace;
+use checker::board::load::load;
+use checker::board::trace;
+use checker::judge::digest::fnv_1a;
 use std::path::PathBuf;
 use std::process::Command;
 

@@ -1,20 +1,19 @@
-//! Cases of 01, 02 (A2, A4) and MANUALS.md on the independent board, by all of its routes: call by call, by
-//! the logbook, and as a trace.
+//! The typed-in cases on the independent board, by all of its routes: call by call, by the logbook, and as a trace.
 
-use checker::analog::{code, Answer};
+use checker::board::analog::{code, Answer};
+use checker::board::call::{Call, Calls};
+use checker::board::logbook::{Event, Logbook};
+use checker::board::trace;
 use checker::board::Board;
-use checker::call::Call;
+use checker::cases::script::steps;
 use checker::cases::{self, Case};
-use checker::logbook::{Event, Logbook};
-use checker::looks::check_reads;
-use checker::script::steps;
-use checker::trace;
+use checker::judge::looks::check_reads;
+use std::fs;
 
 /// The first answer of a case that is not as expected, by name of the route.
 fn first_difference(case: &Case, route: &str, answers: &[Answer]) -> Option<String> {
-    let steps = case.steps();
-    assert_eq!(answers.len(), steps.len(), "{}", case.name);
-    let mut pairs = steps.iter().zip(answers).enumerate();
+    assert_eq!(answers.len(), case.steps.len(), "{}", case.name);
+    let mut pairs = case.steps.iter().zip(answers).enumerate();
     let (index, (step, answer)) = pairs.find(|(_, (step, answer))| step.expected != **answer)?;
     Some(format!(
         "{}\n    {route}, call {}, {}: {answer:?}, expected {:?}",
@@ -55,7 +54,7 @@ fn answer_of(bytes: &[u8]) -> Answer {
 fn check(cases: &[Case]) {
     let mut differences = Vec::new();
     for case in cases {
-        let calls: Vec<Call> = case.steps().iter().map(|step| step.call).collect();
+        let calls: Vec<Call> = case.steps.iter().map(|step| step.call).collect();
         let range = u32::from(case.range);
         differences.extend(first_difference(case, "board", &by_board(range, &calls)));
         differences.extend(first_difference(
@@ -69,58 +68,59 @@ fn check(cases: &[Case]) {
     assert!(differences.is_empty(), "\n{}\n", differences.join("\n"));
 }
 
-/// The one case of a group with this name.
-fn check_one(group: &[Case], name: &str) {
-    let position = group.iter().position(|case| case.name == name);
-    let position = position.unwrap_or_else(|| panic!("no case {name}"));
-    check(&group[position..=position]);
+fn check_group(name: &str) {
+    check(&cases::group(name));
+}
+
+fn check_mistake(name: &str) {
+    check(&[cases::one("mistakes", name)]);
 }
 
 #[test]
-fn bench_cases_of_01() {
-    check(cases::BENCH);
+fn bench_cases() {
+    check_group("bench");
 }
 
 #[test]
 fn reading_new_data_keeps_missed() {
     let name = "clearing Missed when the New Data register is read";
-    check_one(cases::MISTAKES, name);
+    check_mistake(name);
 }
 
 #[test]
 fn a_single_mode_uses_the_first_half_only() {
-    check_one(cases::MISTAKES, "the second half used in a single mode");
+    check_mistake("the second half used in a single mode");
 }
 
 #[test]
 fn the_code_is_taken_at_the_beginning() {
-    check_one(cases::MISTAKES, "taking the code at the store");
+    check_mistake("taking the code at the store");
 }
 
 #[test]
 fn the_delay_of_a_burst_comes_after_the_group() {
     let name = "burst D counted from the group's beginning";
-    check_one(cases::MISTAKES, name);
+    check_mistake(name);
 }
 
 #[test]
 fn trigger_only_triggers_keep_the_bits() {
-    check_one(cases::MISTAKES, "trigger-only triggers clearing bits");
+    check_mistake("trigger-only triggers clearing bits");
 }
 
 #[test]
 fn no_mistake_is_left_out() {
-    assert_eq!(cases::MISTAKES.len(), 5);
+    assert_eq!(cases::group("mistakes").len(), 5);
 }
 
 #[test]
 fn timer_of_the_manuals() {
-    check(cases::TIMER);
+    check_group("timer");
 }
 
 #[test]
 fn programming_examples_of_the_manuals() {
-    check(cases::EXAMPLES);
+    check_group("programming_examples");
     assert_eq!(32 * 0x8000, 1_048_576);
     assert_eq!(32 * 48_824, 1_562_368);
     assert_eq!(32 * 32_112, 1_027_584);
@@ -129,47 +129,73 @@ fn programming_examples_of_the_manuals() {
 
 #[test]
 fn other_figures_of_the_manuals() {
-    check(cases::OTHERS);
+    check_group("sequences");
 }
 
 #[test]
 fn open_points_as_recommended() {
-    check(cases::OPEN_POINTS);
+    check_group("left_open");
 }
 
 #[test]
 fn questions_1_to_13() {
-    check(cases::QUESTIONS);
+    check_group("refusals");
 }
 
 #[test]
 fn schedule_widths_and_reset() {
-    check(cases::SCHEDULE);
+    check_group("schedule");
 }
 
 #[test]
 fn looks_and_clears() {
-    check(cases::LOOKS);
+    check_group("looks_and_clears");
 }
 
-/// 02, A2: the read's board is the one that look and then clear leave, after every call of every case.
-/// The logbook's events are the same too: a clear is the event read, and a look is none.
+/// Each file has its test here, but for the recordings, which have theirs in `tests/replay.rs`.
+#[test]
+fn no_group_is_left_out() {
+    let groups = [
+        "bench",
+        "left_open",
+        "looks_and_clears",
+        "mistakes",
+        "programming_examples",
+        "recordings",
+        "refusals",
+        "schedule",
+        "sequences",
+        "timer",
+        "triggers_before_arming",
+    ];
+    assert_eq!(cases::groups(), groups);
+    let folder = concat!(env!("CARGO_MANIFEST_DIR"), "/cases");
+    let files = fs::read_dir(folder).expect("the folder").count();
+    assert_eq!(
+        files,
+        groups.len(),
+        "one has another ending, and is not read"
+    );
+}
+
+/// The read's board is the one that look and then clear leave, after every call of every case. The logbook's events are
+/// the same too: a clear is the event read, and a look is none.
 #[test]
 fn a_mailbox_read_is_a_look_and_then_a_clear() {
     let (mut boards, mut unread) = (0, 0);
     for case in cases::all() {
         let mut board = Board::new(case.range.into()).0;
         let mut logbook = Logbook::new(case.range.into());
-        for step in case.steps() {
+        for step in &case.steps {
             board.call(&step.call);
             for slot in 0..32 {
-                check_reads(&board, slot, Board::call, case.name);
+                check_reads(&board, slot, Board::call, &case.name);
             }
             boards += 1;
             unread += u32::from(board.new_bits() != 0);
             if logbook.call(&step.call).value <= 64 {
-                check_reads(&logbook, 0, Logbook::call, case.name);
-                check_reads(&logbook, 16, Logbook::call, case.name);
+                check_reads(&logbook, 0, Logbook::call, &case.name);
+                check_reads(&logbook, 16, Logbook::call, &case.name);
             }
         }
     }
@@ -189,11 +215,11 @@ fn the_events_of_a_look_and_a_clear() {
 
 #[test]
 fn triggers_before_arming() {
-    check(cases::BEFORE_ARMING);
+    check_group("triggers_before_arming");
 }
 
-/// 02, A4: the beginning is no cycle start, and its store is one like others, which ends no pass. An ignored
-/// trigger is no event.
+/// The beginning is no cycle start, and its store is one like others, which ends no pass. An ignored trigger is no
+/// event.
 #[test]
 fn the_events_of_a_trigger_before_arming() {
     let mut logbook = Logbook::new(1);
@@ -244,7 +270,7 @@ fn question_14() {
     }
 }
 
-/// 4.6, interrupt handler sequence: pending 1, 1, 0, 0 and line 1, 0, 0, 0.
+/// The interrupt handler of the manuals: pending 1, 1, 0, 0 and line 1, 0, 0, 0.
 #[test]
 fn the_request_line_is_enable_and_pending() {
     let mut board = Board::new(1).0;
@@ -261,7 +287,7 @@ fn the_request_line_is_enable_and_pending() {
     }
 }
 
-/// 4.6, slot addresses and bit tables: slot s has its mailbox at 80H + 4s and its bits in word
+/// Slot addresses and bit tables: slot s has its mailbox at 80H + 4s and its bits in word
 /// s div 16, bit s mod 16.
 #[test]
 fn every_slot_has_its_mailbox_and_its_bits() {
@@ -292,7 +318,7 @@ fn every_slot_has_its_mailbox_and_its_bits() {
     }
 }
 
-/// 4.6, the control words of both examples decode as their lists say.
+/// The control words of the manuals' two programming examples decode as their lists say.
 #[test]
 fn control_words_of_the_examples() {
     // word, acquisition, scan, timer enabled; all are straight, with trigger and interrupt off

@@ -1,10 +1,10 @@
 //! The archive's code of a voltage against the independent one.
 
-use checker::analog::{code, exact_code, least_voltage};
 use checker::archive;
-use checker::coverage::{kind, Coverage, Kind};
-use checker::fraction::Fraction;
-use checker::random::{seed_or, Random};
+use checker::board::analog::{code, exact_code, least_voltage};
+use checker::board::fraction::Fraction;
+use checker::draw::random::{seed_or, Random};
+use checker::judge::coverage::{kind, Coverage, Kind};
 
 const DRAWS: u32 = 1_500_000;
 

@@ -1,10 +1,10 @@
 //! The archive's two-point correction against the independent one, on drawn inputs.
 
-use checker::analog::{calibration_voltage, code, Answer, Correction, GREATEST_SUM};
 use checker::archive;
-use checker::coverage::{kind, Coverage, Kind};
-use checker::fraction::Fraction;
-use checker::random::{seed_or, Random};
+use checker::board::analog::{calibration_voltage, code, Answer, Correction, GREATEST_SUM};
+use checker::board::fraction::Fraction;
+use checker::draw::random::{seed_or, Random};
+use checker::judge::coverage::{kind, Coverage, Kind};
 
 const DRAWS: u32 = 2_500_000;
 const CALIBRATIONS: [u32; 5] = [3, 4, 5, 6, 7];

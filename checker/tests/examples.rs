@@ -1,9 +1,10 @@
 //! The examples of the repository: what each is said to print is what the independent player prints, and what
 //! each recording is said to give is what the independent replay gives.
 
-use checker::replay::replayed;
-use checker::script::fields;
-use checker::trace::{printed, trace_of_fields, Field};
+use checker::board::replay::replayed;
+use checker::board::trace::{printed, trace_of_fields, Field};
+use checker::cases::files_of_calls;
+use checker::cases::script::fields;
 use std::fs;
 use std::path::{Path, PathBuf};
 
@@ -16,13 +17,7 @@ struct Example {
 
 fn examples() -> Vec<Example> {
     let folder = Path::new(env!("CARGO_MANIFEST_DIR")).join("../examples");
-    let entries = fs::read_dir(folder).expect("the folder examples/");
-    let mut paths: Vec<PathBuf> = entries
-        .map(|entry| entry.expect("an entry").path())
-        .collect();
-    paths.retain(|path| path.extension().is_some_and(|ending| ending == "calls"));
-    paths.sort();
-    paths.into_iter().map(example).collect()
+    files_of_calls(&folder).into_iter().map(example).collect()
 }
 
 /// Its first line that is no comment is `range N`.

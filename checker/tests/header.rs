@@ -1,7 +1,7 @@
-//! Each constant and each macro of `include/pmc330.h` is what this program has (`src/figures.rs`). The names are taken
-//! from the header's text, so that one without a figure is noticed, and its values from the C compiler.
+//! Each constant and each macro of `include/pmc330.h` is what this program has (`src/judge/figures.rs`). The names are
+//! taken from the header's text, so that one without a figure is noticed, and its values from the C compiler.
 
-use checker::figures::{figures, Figure, Named};
+use checker::judge::figures::{figures, Figure, Named};
 use std::collections::{BTreeMap, BTreeSet};
 use std::fs;
 use std::path::{Path, PathBuf};

@@ -1,16 +1,18 @@
-//! The archive's load (02, A8) against that of the independent program, and as its player plays it.
+//! The archive's load against that of the independent program, and as its player plays it.
 
-use checker::analog::Answer;
 use checker::archive;
-use checker::call::Call;
-use checker::coverage::{kind, Coverage, Kind};
-use checker::digest::fnv_1a;
-use checker::lent::{lent, Lent};
-use checker::load::{call_of, calls_of, is_load_of, load, step, Loader};
-use checker::random::{seed_or, Random};
-use checker::script;
-use checker::stepped::answers_by_functions;
-use checker::trace::{self, answer_of_bytes, field_of, fields_of, trace_of, Field, LONGEST_TRACE};
+use checker::archive::lent::{lent, Lent};
+use checker::archive::stepped::answers_by_functions;
+use checker::board::analog::Answer;
+use checker::board::call::Call;
+use checker::board::load::{call_of, calls_of, is_load_of, load, step, Loader};
+use checker::board::trace::{
+    self, answer_of_bytes, field_of, fields_of, trace_of, Field, LONGEST_TRACE,
+};
+use checker::cases::script;
+use checker::draw::random::{seed_or, Random};
+use checker::judge::coverage::{kind, Coverage, Kind};
+use checker::judge::digest::fnv_1a;
 use std::collections::HashSet;
 use std::ops::RangeInclusive;
 
@@ -37,7 +39,7 @@ struct Stated {
     calls: u32,
 }
 
-/// The calls by 02's words.
+/// The calls by the words of the data sheet ("Loads").
 fn list_of(stated: &Stated) -> Vec<Call> {
     calls_of(stated.seed).take(stated.calls as usize).collect()
 }
@@ -313,7 +315,7 @@ const PROGRAMS: [(&str, Loader); 2] = [
     ("the independent program", load),
 ];
 
-/// MANUALS.md 4.6: the x of seed 1, and the first x of the usual seed.
+/// The x of seed 1, step by step, and the first x of the usual seed, typed in.
 #[test]
 fn steps_of_the_manuals() {
     let of_seed_1 = [
@@ -334,11 +336,11 @@ fn steps_of_the_manuals() {
     assert_eq!(step(2_463_534_242), 723_471_715);
 }
 
-/// MANUALS.md 4.6: "seed 1", "range 1, 8 calls, 54 bytes".
+/// Seed 1, range 1, 8 calls: 54 bytes, typed in.
 const CALLS_OF_SEED_1: &str = "read 16 10H; read 16 00H; advance 1304; reset
     read 16 E8H; read 16 E8H; read 16 8CH; read 16 58H";
 
-/// The same by 01's section on traces.
+/// The same in bytes.
 #[rustfmt::skip]
 const BYTES_OF_SEED_1: [u8; 54] = [
     0x00, 0x05, 0x00, 0x41, 0x33, 0x33, 0x30, 0x01,
@@ -638,7 +640,7 @@ fn any_good(random: &mut Random) -> Stated {
 }
 
 #[test]
-fn loads_read_back_are_the_calls_of_02() {
+fn loads_read_back_are_the_stated_calls() {
     let seed = seed_or(330);
     let mut random = Random::new(seed);
     for _ in 0..LOADS {
@@ -646,7 +648,7 @@ fn loads_read_back_are_the_calls_of_02() {
     }
 }
 
-/// The archive's bytes, read by the independent program, are the range and the calls by 02's words.
+/// The archive's bytes, read by the independent program, are the range and the stated calls.
 fn check_read_back(stated: &Stated) {
     let read_back = fields_of(&archive_load(stated));
     let (range, fields) = read_back.unwrap_or_else(|number| panic!("{stated:?}: {number}"));
@@ -657,8 +659,8 @@ fn check_read_back(stated: &Stated) {
     }
 }
 
-/// "the player accepts it with at least 5 answer bytes per call": with exactly these and with more, and not with one
-/// fewer. The answers are those of the other player, and those of the same calls made one by one. Gives them.
+/// The player takes it with 5 answer bytes per call and with more, and not with one fewer. The answers are those of the
+/// other player, and those of the same calls made one by one. Gives them.
 fn check_played(stated: &Stated, trace: &[u8]) -> Vec<u8> {
     let calls = stated.calls as usize;
     let [mut answers, mut expected] = [0xA5, 0x5A].map(|filling| vec![filling; 5 * calls]);
@@ -695,7 +697,7 @@ fn drawn_loads_are_played() {
     coverage.assert_all_met();
 }
 
-/// The load by which machines are compared, with the digests that docs/MEASUREMENTS.md gives to the buyers.
+/// The load by which machines are compared, with the digests that docs/MEASUREMENTS.md has.
 #[test]
 fn the_load_to_compare_machines_by() {
     let stated = Stated {

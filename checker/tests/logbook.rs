@@ -1,15 +1,15 @@
-//! The independent board against 01's logbook, which goes tick by tick and shares nothing with it
+//! The independent board against the logbook, which goes tick by tick and shares nothing with it
 //! but the figures behind the code of a voltage: the checker's own check.
 
-use checker::analog::Answer;
-use checker::before_arming::{self, Arming};
+use checker::board::analog::Answer;
+use checker::board::call::{Call, Calls, Step};
+use checker::board::logbook::{Event, Logbook};
 use checker::board::{Board, LONGEST_ADVANCE};
-use checker::call::{Call, Step};
-use checker::coverage::Coverage;
-use checker::generator::scenes;
-use checker::logbook::{Event, Logbook};
-use checker::random::{seed_or, Random};
-use checker::script::steps;
+use checker::cases::script::steps;
+use checker::draw::generator::scenes;
+use checker::draw::random::{seed_or, Random};
+use checker::judge::before_arming::{self, Arming};
+use checker::judge::coverage::Coverage;
 
 const LISTS: u32 = 10_000;
 
@@ -269,5 +269,28 @@ fn write_and_read_back(start: &Pair, width: u8, offset: u16, value: u32) {
     let trigger = [Call::Trigger];
     for call in reads.iter().chain(&trigger).chain(&reads).chain(&looks) {
         pair.call(call, &name);
+    }
+}
+
+/// A range of 0 to 3 opens both anew, whatever runs on them; any other is refused with 14 and leaves both.
+#[test]
+fn opened_in_place() {
+    let answer = |number| Answer { number, value: 0 };
+    let mut pair = Pair::new(1);
+    for step in steps("input 0 5,000,000; write 16 04H 0309H; write 16 24H 1; advance 184 = 2") {
+        assert_eq!(pair.call(&step.call, "before an opening"), step.expected);
+    }
+    for range in [4, 5, 255, 256, u32::MAX] {
+        let (mut board, mut logbook) = (pair.board.clone(), pair.logbook.clone());
+        assert_eq!(board.open(range), answer(14), "range {range}");
+        assert_eq!(logbook.open(range), answer(14), "range {range}");
+        assert!(board == pair.board && logbook == pair.logbook);
+    }
+    for range in 0..=3 {
+        let (mut board, mut logbook) = (pair.board.clone(), pair.logbook.clone());
+        assert_eq!(board.open(range), answer(0), "range {range}");
+        assert_eq!(logbook.open(range), answer(0), "range {range}");
+        assert_eq!(board, Board::new(range).0);
+        assert_eq!(logbook, Logbook::new(range));
     }
 }

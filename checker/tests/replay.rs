@@ -1,20 +1,21 @@
-//! Replays of recordings (02, A6) on the independent program: what the made-up ones reach, the logbook's answers,
+//! Replays of recordings on the independent program: what the made-up ones reach, the logbook's answers,
 //! typed-in cases, every short list of fields. The archive replays the same in another test.
 
-use checker::analog::Answer;
-use checker::call::Call;
-use checker::cases::{self, Replay};
-use checker::coverage::Coverage;
-use checker::logbook::Logbook;
-use checker::random::{seed_or, Random};
-use checker::recording_kinds::all_kinds;
-use checker::recordings::{check_longest, made_up_recording, short_recording};
-use checker::recordings::{NUMBER_OF_WAYS, RECORDINGS, SEED};
-use checker::replay::{replay, replayed, verdict, Replayed};
-use checker::script::fields;
-use checker::short_lists::{each_short_list, Expected};
-use checker::trace::{self, field_of, field_of_answer, fields_of, heading, lines, play};
-use checker::trace::{trace_of, trace_of_fields};
+use checker::board::analog::Answer;
+use checker::board::call::{Call, Calls};
+use checker::board::logbook::Logbook;
+use checker::board::replay::{replay, replayed, verdict, Replayed};
+use checker::board::trace::{
+    self, field_of, field_of_answer, fields_of, heading, lines, play, trace_of,
+};
+use checker::cases;
+use checker::cases::fields::REPLAYED;
+use checker::draw::random::{seed_or, Random};
+use checker::draw::recordings::{check_longest, made_up_recording, short_recording};
+use checker::draw::recordings::{NUMBER_OF_WAYS, RECORDINGS, SEED};
+use checker::draw::short_lists::{each_short_list, Expected};
+use checker::judge::coverage::Coverage;
+use checker::judge::recording_kinds::all_kinds;
 
 #[test]
 fn what_made_up_recordings_reach() {
@@ -113,7 +114,7 @@ fn a_recording_is_played_as_its_calls_are() {
     assert!(played > 4_000);
 }
 
-/// Every list of up to five fields of a few kinds, with what the words of 02 say of it.
+/// Every list of up to five fields of a few kinds, with what must come of it.
 #[test]
 fn every_short_list_of_fields() {
     let mut lists = 0;
@@ -136,27 +137,23 @@ fn every_short_list_of_fields() {
 
 // Typed in.
 
-fn trace_of_case(case: &Replay) -> Vec<u8> {
-    trace_of_fields(case.range, &fields(case.script))
-}
-
 #[test]
 fn typed_in_recordings() {
-    for case in cases::REPLAYS {
-        let printed = replayed(&trace_of_case(case));
+    for case in cases::recordings() {
+        let printed = replayed(&case.trace());
         assert_eq!(printed, format!("{}\n", case.printed), "{}", case.name);
     }
 }
 
 #[test]
 fn typed_in_results() {
-    for (fields, result) in cases::REPLAYED {
+    for (fields, result) in REPLAYED {
         let trace = fields.concat();
         assert_eq!(replay(&trace).packed(), *result, "{trace:02X?}");
     }
 }
 
-/// Number and value, low byte first, as 01 and 02 have it.
+/// Number and value, low byte first.
 #[test]
 fn the_field_of_an_answer() {
     let answer = Answer {
@@ -182,7 +179,7 @@ fn the_longest_recordings() {
     check_longest(play, |trace| replay(trace).packed());
 }
 
-/// The program takes 32,768 bytes, as 01's does, and then judges.
+/// The program takes 32,768 bytes, as the player's does, and then judges.
 #[test]
 fn the_program_takes_32768_bytes() {
     assert_eq!(replayed(b""), "refused 18\n");

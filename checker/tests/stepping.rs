@@ -1,19 +1,19 @@
 //! Boards that a simulator holds and steps call by call: the archive's functions against the
 //! independent board, against the archive's own player, and on structs with any bytes in them.
 
-use checker::any_bytes::{self, step_any_bytes};
 use checker::archive;
+use checker::archive::stepped::{answers_by_functions, places, SteppedBoard, BYTES};
+use checker::archive::stepping::{self, step_a_list};
+use checker::board::call::{Call, Calls};
+use checker::board::trace::trace_of;
 use checker::board::LONGEST_ADVANCE;
-use checker::call::Call;
 use checker::cases;
-use checker::coverage::Coverage;
-use checker::generator::{hostile, marathon, scenes, sprint};
-use checker::looks::check_reads;
-use checker::random::{seed_or, Random};
-use checker::script::steps;
-use checker::stepped::{answers_by_functions, places, SteppedBoard, BYTES};
-use checker::stepping::{self, step_a_list};
-use checker::trace::trace_of;
+use checker::cases::script::steps;
+use checker::draw::any_bytes::{self, step_any_bytes};
+use checker::draw::generator::{hostile, marathon, scenes, sprint};
+use checker::draw::random::{seed_or, Random};
+use checker::judge::coverage::Coverage;
+use checker::judge::looks::check_reads;
 
 const SEED: u64 = 324;
 
@@ -101,14 +101,13 @@ fn stepped_as_played() {
     assert!(calls > 100_000);
 }
 
-/// The cases of 01 and MANUALS.md: here the answers are typed in, not worked out.
+/// Here the answers are typed in, not worked out.
 #[test]
 fn typed_in_cases() {
     for case in cases::all() {
-        let steps = case.steps();
-        let calls: Vec<Call> = steps.iter().map(|step| step.call).collect();
+        let calls: Vec<Call> = case.steps.iter().map(|step| step.call).collect();
         let stepped = answers_by_functions(case.range.into(), &calls);
-        for (index, (step, bytes)) in steps.iter().zip(stepped.chunks_exact(5)).enumerate() {
+        for (index, (step, bytes)) in case.steps.iter().zip(stepped.chunks_exact(5)).enumerate() {
             let value = u32::from_le_bytes([bytes[1], bytes[2], bytes[3], bytes[4]]);
             assert_eq!(
                 (u64::from(bytes[0]), u64::from(value)),
@@ -122,17 +121,17 @@ fn typed_in_cases() {
     }
 }
 
-/// 02, A2, of all 324 bytes: the struct that a mailbox read leaves is the one that look and then clear
-/// leave, after every call of every case; and the read's value is in the look's low 16 bits.
+/// Of all 324 bytes: the struct that a mailbox read leaves is the one that look and then clear leave, after every call
+/// of every case; and the read's value is in the look's low 16 bits.
 #[test]
 fn a_mailbox_read_is_a_look_and_then_a_clear() {
     for case in cases::all() {
         let mut board = SteppedBoard::filled(0x5A);
         assert_eq!(board.open(case.range.into()), 0);
-        for step in case.steps() {
+        for step in &case.steps {
             board.call(&step.call);
             for slot in 0..32 {
-                check_reads(&board, slot, SteppedBoard::answer, case.name);
+                check_reads(&board, slot, SteppedBoard::answer, &case.name);
             }
         }
     }

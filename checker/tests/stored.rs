@@ -2,13 +2,13 @@
 //! print is what the independent program prints. Looks, clears and triggers before arming are among the traces'
 //! calls, and recorded answers among their fields.
 
+use checker::board::replay::replayed;
+use checker::board::trace::{decoded, has_answers, play, printed};
 use checker::board::Board;
-use checker::coverage::Coverage;
-use checker::history::History;
-use checker::moments::{arming_kinds, look_kinds, played};
-use checker::replay::replayed;
-use checker::stored::stored;
-use checker::trace::{decoded, has_answers, play, printed};
+use checker::draw::stored::stored;
+use checker::judge::coverage::Coverage;
+use checker::judge::history::History;
+use checker::judge::moments::{arming_kinds, look_kinds, played};
 use std::collections::BTreeMap;
 use std::fs;
 

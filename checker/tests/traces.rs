@@ -1,19 +1,22 @@
 //! Made-up traces on the independent player: what they reach, what a player may do to its buffer,
 //! and the logbook's answers. The archive plays the same traces in another test.
 
-use checker::analog::Answer;
+use checker::board::analog::Answer;
+use checker::board::call::{Call, Calls};
+use checker::board::logbook::Logbook;
+use checker::board::trace::{
+    self, answer_of_bytes, decoded, field, field_of, has_answers, heading,
+};
+use checker::board::trace::{lines, play, printed, trace_of};
 use checker::board::Board;
-use checker::call::Call;
-use checker::cases::{self, SEVEN_CALLS};
-use checker::coverage::Coverage;
-use checker::history::History;
-use checker::logbook::Logbook;
-use checker::made_up::{check_longest, made_up, MadeUp, SEED, TRACES};
-use checker::moments::{all_kinds, played, Accesses};
-use checker::random::seed_or;
-use checker::script::steps;
-use checker::trace::{self, answer_of_bytes, decoded, field, field_of, has_answers, heading};
-use checker::trace::{lines, play, printed, trace_of};
+use checker::cases;
+use checker::cases::fields::PLAYED;
+use checker::cases::script::steps;
+use checker::draw::made_up::{check_longest, made_up, MadeUp, SEED, TRACES};
+use checker::draw::random::seed_or;
+use checker::judge::coverage::Coverage;
+use checker::judge::history::History;
+use checker::judge::moments::{all_kinds, played, Accesses};
 use std::collections::BTreeMap;
 
 /// What came of one made-up trace.
@@ -207,10 +210,11 @@ fn lines_of(answers: &[Answer]) -> String {
 
 // Typed in.
 
-/// 01's example, byte for byte and line by line.
+/// The first example of a trace, byte for byte and line by line.
 #[test]
 fn the_trace_of_seven_lines() {
-    let calls: Vec<Call> = steps(SEVEN_CALLS).iter().map(|step| step.call).collect();
+    let case = cases::one("bench", "the trace of seven lines");
+    let calls: Vec<Call> = case.steps.iter().map(|step| step.call).collect();
     let trace = trace_of(1, &calls);
     #[rustfmt::skip]
     let bytes = [
@@ -224,9 +228,9 @@ fn the_trace_of_seven_lines() {
         0x01, 3, 0, 16, 0x14, 0,
     ];
     assert_eq!(trace, bytes);
-    let printed_by_01 = "1 0 00000000\n2 0 00000000\n3 0 00000000\n4 0 00000001\n\
+    let expected = "1 0 00000000\n2 0 00000000\n3 0 00000000\n4 0 00000001\n\
                          5 0 00000001\n6 0 00008000\n7 0 00000000\n";
-    assert_eq!(lines(&trace), printed_by_01);
+    assert_eq!(lines(&trace), expected);
     let mut buffer = [0xEE; 37];
     assert_eq!(play(&trace, &mut buffer), 7 * 256);
     assert_eq!(buffer[15..20], [0, 1, 0, 0, 0]);
@@ -260,7 +264,7 @@ fn fields_of_calls() {
 
 #[test]
 fn questions_18_to_20_and_26() {
-    for (fields, length, result) in cases::TRACES {
+    for (fields, length, result) in PLAYED {
         let trace = fields.concat();
         let mut buffer = vec![0xA5; *length];
         assert_eq!(play(&trace, &mut buffer), *result, "{trace:02X?}, {length}");
@@ -316,7 +320,7 @@ fn the_longest_trace() {
     check_longest(play);
 }
 
-/// U24 and U25 of MANUALS.md: a longer input is cut and then judged.
+/// A longer input is cut and then judged.
 #[test]
 fn the_program_takes_32768_bytes() {
     assert_eq!(printed(b""), "refused 18\n");

@@ -1,8 +1,8 @@
-//! Vectors typed in from the manuals (MANUALS.md, section 4) and from the bench cases of 01, checked
-//! against the independent program and against the archive.
+//! Figures typed in from the manuals, and bench cases worked by hand, checked against the independent program and
+//! against the archive.
 
-use checker::analog::{calibration_voltage, code, in_twos_complement, Answer, Correction};
 use checker::archive;
+use checker::board::analog::{calibration_voltage, code, in_twos_complement, Answer, Correction};
 
 /// The gain field of a printed gain.
 fn field_of(gain: u32) -> u32 {
@@ -16,7 +16,7 @@ fn field_of(gain: u32) -> u32 {
 fn calibration_of(microvolts: i32) -> u32 {
     (3..=7)
         .find(|code| calibration_voltage(*code) == Some(microvolts))
-        .expect("a calibration voltage of 01")
+        .expect("a calibration voltage")
 }
 
 fn check_code(source: &str, range: u32, gain: u32, microvolts: i32, expected: u32) {
@@ -35,7 +35,7 @@ fn check_answer(source: &str, call: Correction, number: u64, value: u64) {
     assert_eq!(archive::corrected(&call), expected, "{name}: the archive");
 }
 
-/// A correction in the order of 4.3 and 4.5: range, gain field, high, low, high sum, low sum, raw.
+/// A correction by its fields: range, gain field, high, low, high sum, low sum, raw.
 fn corr(fields: [u32; 7]) -> Correction {
     let [range, gain, high, low, high_sum, low_sum, raw] = fields;
     Correction {
@@ -49,7 +49,8 @@ fn corr(fields: [u32; 7]) -> Correction {
     }
 }
 
-/// 4.1: point, range, printed volts as uV, printed code, the code by 01, least uV of the printed code.
+/// Ideal codes of the manuals: point, range, printed volts as uV, printed code, the code by the formula, least uV of
+/// the printed code.
 const IDEAL_CODES: [(&str, u32, i32, u32, u32, i32); 16] = [
     ("+FS - 1 LSB", 1, 9_999_695, 0xFFFF, 0xFFFF, 9_999_695),
     ("+FS - 1 LSB", 3, 9_999_847, 0xFFFF, 0xFFFE, 9_999_848),
@@ -72,18 +73,21 @@ const IDEAL_CODES: [(&str, u32, i32, u32, u32, i32); 16] = [
 #[test]
 fn ideal_codes_of_the_manuals() {
     let mut met = 0;
-    for (point, range, printed, printed_code, by_01, least) in IDEAL_CODES {
-        let source = format!("4.1 {point}");
-        check_code(&source, range, 1, printed, by_01);
+    for (point, range, printed, printed_code, by_formula, least) in IDEAL_CODES {
+        let source = format!("ideal code, {point}");
+        check_code(&source, range, 1, printed, by_formula);
         check_code(&source, range, 1, least, printed_code);
         if printed_code > 0 {
             check_code(&source, range, 1, least - 1, printed_code - 1);
         }
-        if by_01 == printed_code {
+        if by_formula == printed_code {
             met += 1;
         }
     }
-    assert_eq!(met, 12, "twelve of the sixteen printed points meet 01");
+    assert_eq!(
+        met, 12,
+        "twelve of the sixteen printed points meet the formula"
+    );
 }
 
 /// Table 3.6 of the PMC330 manual: two's complement, straight binary. The archive has no call for it.
@@ -100,7 +104,7 @@ fn formats_of_the_manuals() {
     }
 }
 
-/// 4.3, range 1, gain 1: input uV, code (step 3), corrected (step 4).
+/// Programming example 1 of the manuals, range 1, gain 1: input uV, code (step 3), corrected (step 4).
 const EXAMPLE_1: [(i32, u32, u64); 4] = [
     (0, 32_768, 32_768),
     (2_500_000, 40_960, 40_960),
@@ -110,16 +114,17 @@ const EXAMPLE_1: [(i32, u32, u64); 4] = [
 
 #[test]
 fn programming_example_1() {
-    check_code("4.3 step 1", 1, 1, 0, 1_048_576 / 32);
-    check_code("4.3 step 2", 1, 1, 4_900_000, 1_562_368 / 32);
+    check_code("example 1, step 1", 1, 1, 0, 1_048_576 / 32);
+    check_code("example 1, step 2", 1, 1, 4_900_000, 1_562_368 / 32);
     for (input, raw, corrected) in EXAMPLE_1 {
-        check_code("4.3 step 3", 1, 1, input, raw);
+        check_code("example 1, step 3", 1, 1, input, raw);
         let call = corr([1, 0, 3, 7, 1_562_368, 1_048_576, raw]);
-        check_answer("4.3 step 4", call, 0, corrected);
+        check_answer("example 1, step 4", call, 0, corrected);
     }
 }
 
-/// 4.4 step 3, range 3, gain 8: channel, code, corrected. The input is 100,000 * (channel - 2) uV.
+/// Programming example 2 of the manuals, step 3, range 3, gain 8: channel, code, corrected. The input is 100,000 *
+/// (channel - 2) uV.
 const EXAMPLE_2: [(i32, u32, u64); 11] = [
     (3, 5_242, 5_243),
     (4, 10_485, 10_486),
@@ -136,16 +141,16 @@ const EXAMPLE_2: [(i32, u32, u64); 11] = [
 
 #[test]
 fn programming_example_2() {
-    check_code("4.4 step 1", 3, 8, 612_500, 1_027_584 / 32);
-    check_code("4.4 step 2", 3, 8, 1_225_000, 2_055_200 / 32);
+    check_code("example 2, step 1", 3, 8, 612_500, 1_027_584 / 32);
+    check_code("example 2, step 2", 3, 8, 1_225_000, 2_055_200 / 32);
     for (channel, raw, corrected) in EXAMPLE_2 {
-        check_code("4.4 step 3", 3, 8, 100_000 * (channel - 2), raw);
+        check_code("example 2, step 3", 3, 8, 100_000 * (channel - 2), raw);
         let call = corr([3, 3, 5, 6, 2_055_200, 1_027_584, raw]);
-        check_answer("4.4 step 3", call, 0, corrected);
+        check_answer("example 2, step 3", call, 0, corrected);
     }
 }
 
-/// 4.5, Table 3.9 of the manuals: range, gain, low uV, high uV, low code, high code, and raw 0, the
+/// Table 3.9 of the manuals, recommended pairs: range, gain, low uV, high uV, low code, high code, and raw 0, the
 /// low code, 32768, the high code and 65535 corrected.
 type RecommendedPair = (u32, u32, i32, i32, u32, u32, [u64; 5]);
 
@@ -172,8 +177,8 @@ const RECOMMENDED_PAIRS: [RecommendedPair; 16] = [
 #[test]
 fn recommended_calibration_pairs() {
     for (range, gain, low, high, low_code, high_code, corrected) in RECOMMENDED_PAIRS {
-        check_code("4.5 low code", range, gain, low, low_code);
-        check_code("4.5 high code", range, gain, high, high_code);
+        check_code("recommended pair, low code", range, gain, low, low_code);
+        check_code("recommended pair, high code", range, gain, high, high_code);
         let raws = [0, low_code, 32_768, high_code, 65_535];
         for (raw, expected) in raws.into_iter().zip(corrected) {
             let call = Correction {
@@ -185,12 +190,12 @@ fn recommended_calibration_pairs() {
                 low_sum: 32 * low_code,
                 raw,
             };
-            check_answer("4.5 corrected", call, 0, expected);
+            check_answer("recommended pair, corrected", call, 0, expected);
         }
     }
 }
 
-/// 4.5, ties and limits: the correction, its value.
+/// Ties and limits: the correction, its value.
 const TIES_AND_LIMITS: [([u32; 7], u64); 4] = [
     ([0, 0, 3, 7, 1_048_576, 0, 6_425], 39_065),
     ([0, 0, 3, 7, 1_048_576, 0, 19_275], 51_658),
@@ -201,7 +206,7 @@ const TIES_AND_LIMITS: [([u32; 7], u64); 4] = [
 #[test]
 fn ties_and_limits() {
     for (fields, value) in TIES_AND_LIMITS {
-        check_answer("4.5 ties and limits", corr(fields), 0, value);
+        check_answer("ties and limits", corr(fields), 0, value);
     }
     // The first two are exact ties, and the last two lie far outside.
     let ends_in_half = |row: usize| corr(TIES_AND_LIMITS[row].0).exact().is_tie();
@@ -210,7 +215,7 @@ fn ties_and_limits() {
     assert!(corr(TIES_AND_LIMITS[3].0).exact().rounded_down() < -67_000_000_000);
 }
 
-/// Bench cases of 01 marked *: range, gain, uV, code.
+/// Bench cases: range, gain, uV, code.
 const BENCH_CODES: [(u32, u32, i32, u32); 5] = [
     (1, 1, 0, 0x8000),
     (1, 1, -1, 0x7FFF),
@@ -219,22 +224,22 @@ const BENCH_CODES: [(u32, u32, i32, u32); 5] = [
     (3, 8, 1_225_000, 64_225),
 ];
 
-/// Bench case of 01 marked *: raw, corrected, with those two as sums 1,027,584 and 2,055,200.
+/// Bench case: raw, corrected, with the last two of those codes as sums 1,027,584 and 2,055,200.
 const BENCH_SUMS: [(u32, u64); 3] = [(32_112, 32_113), (64_225, 64_225), (0, 1)];
 
 #[test]
 fn bench_cases() {
     for (range, gain, microvolts, expected) in BENCH_CODES {
-        check_code("01 bench", range, gain, microvolts, expected);
+        check_code("bench case", range, gain, microvolts, expected);
     }
     assert_eq!(in_twos_complement(code(1, 0, -1)), 0xFFFF);
     for (raw, corrected) in BENCH_SUMS {
         let call = corr([3, 3, 5, 6, 2_055_200, 1_027_584, raw]);
-        check_answer("01 bench", call, 0, corrected);
+        check_answer("bench case", call, 0, corrected);
     }
 }
 
-/// Questions 15 to 17 of 01, at the last value that passes and the first that does not, and in order.
+/// Questions 15 to 17, at the last value that passes and the first that does not, and in order.
 const QUESTIONS: [([u32; 7], u64); 15] = [
     ([4, 0, 3, 7, 2, 1, 0], 15),
     ([0, 4, 3, 7, 2, 1, 0], 15),
@@ -257,6 +262,6 @@ const QUESTIONS: [([u32; 7], u64); 15] = [
 #[test]
 fn questions_in_order() {
     for (fields, number) in QUESTIONS {
-        check_answer("01 questions", corr(fields), number, 0);
+        check_answer("questions", corr(fields), number, 0);
     }
 }

@@ -1,13 +1,13 @@
-//! 02, A7: how long a channel can wait for its next store. The archive's stores with their ticks, found from outside,
-//! against the words of A7, against 01's schedule and against the logbook.
+//! How long a channel can wait for its next store. The archive's stores with their ticks, found from outside, against
+//! the longest wait that is stated, against the schedule and against the logbook.
 
-use checker::call::Call;
-use checker::continuous::{all_kinds, draw_list, Drawn};
-use checker::coverage::Coverage;
-use checker::logbook::{Event, Logbook};
-use checker::random::seed_or;
-use checker::script::steps;
-use checker::waits::{Part, Scan, Stored, Wait, Watch};
+use checker::board::call::{Call, Calls};
+use checker::board::logbook::{Event, Logbook};
+use checker::cases::script::steps;
+use checker::draw::continuous::{all_kinds, draw_list, Drawn};
+use checker::draw::random::seed_or;
+use checker::judge::coverage::Coverage;
+use checker::judge::waits::{Part, Scan, Stored, Wait, Watch};
 
 const SEED: u64 = 7;
 
@@ -51,7 +51,7 @@ fn drawn_continuous_scans() {
     println!("{}", coverage.table());
     assert_eq!(difference, None);
     assert!(by_logbook > 8_000);
-    // In every such scan A7's figure is met to the tick in uniform mode, and by 64 ticks not in burst mode.
+    // In every such scan the stated figure is met to the tick in uniform mode, and by 64 ticks not in burst mode.
     assert_eq!(uniform.left, Some((0, 0)));
     assert_eq!(burst.left, Some((64, 64)));
     coverage.assert_all_met();
@@ -63,7 +63,7 @@ struct Seen {
     scans: u32,
     stores: usize,
     longest: u64,
-    /// By how many ticks their longest waits are below A7's: the least and the most.
+    /// By how many ticks their longest waits are below the stated one: the least and the most.
     left: Option<(u64, u64)>,
 }
 
@@ -105,10 +105,10 @@ fn check(part: &Part) {
     check_allowed(part, &part.stores, "the archive");
     check_exact(part);
     let scheduled = part.scan.scheduled(part.start, part.end);
-    check_stores(part, &scheduled, "01's schedule");
+    check_stores(part, &scheduled, "the schedule");
 }
 
-/// A7: no wait is longer than one pass plus 64 ticks, and of a slot none is longer than two passes plus 64.
+/// No wait is longer than one pass plus 64 ticks, and of a slot none is longer than two passes plus 64.
 fn check_allowed(part: &Part, stores: &[Stored], route: &str) {
     let Part { name, scan, .. } = part;
     let allowed = scan.longest_wait_allowed();
@@ -148,7 +148,7 @@ fn first_store(scan: &Scan, place: u64) -> u64 {
     }
 }
 
-/// Each longest wait to the tick, and how the longest of all stands to A7's.
+/// Each longest wait to the tick, and how the longest of all stands to the stated one.
 fn check_exact(part: &Part) {
     let Part { name, scan, .. } = part;
     let pass = scan.pass();
@@ -232,8 +232,8 @@ fn stored(event: &Event) -> Option<Stored> {
 
 // Span by span.
 
-/// Spans of so many ticks without a store of some channel, as the tick t and the channel: "a span from tick t covers
-/// t + 1 to its end", from T on and as far as the list advances.
+/// Spans of so many ticks without a store of some channel, as the tick t and the channel: a span from tick t covers t +
+/// 1 to its end, from T on and as far as the list advances.
 fn spans_without(part: &Part, ticks: u64) -> Vec<(u64, usize)> {
     let scan = &part.scan;
     let mut found = Vec::new();
@@ -249,7 +249,7 @@ fn spans_without(part: &Part, ticks: u64) -> Vec<(u64, usize)> {
     found
 }
 
-/// A7's own words on small scans, with every span looked at: none of P + 64 ticks is without a store. In uniform mode
+/// What is stated, on small scans, with every span looked at: none of P + 64 ticks is without a store. In uniform mode
 /// one of P + 63 is, from T on, without the last channel; in burst mode those of P - 1 from each store on are.
 #[test]
 fn every_span_of_small_scans() {
@@ -325,7 +325,7 @@ fn ticks_of_slots(part: &Part) -> Vec<u64> {
     waits.iter().map(|wait| wait.ticks).collect()
 }
 
-/// The bench case of 01, but continuous: I = 640, P = 11 x 640 = 7040. Channel 13 waits 7104 ticks, 888 us.
+/// A uniform bench case, but continuous: I = 640, P = 11 x 640 = 7040. Channel 13 waits 7104 ticks, 888 us.
 #[test]
 fn the_bench_case_in_continuous_mode() {
     let part = measured(
@@ -353,7 +353,7 @@ fn all_channels_at_the_least_interval() {
     assert_eq!(ticks_of_channels(&part), expected);
 }
 
-/// The bench case of 01: slot 0 at 64, slot 16 at 184, slot 0 at 304. The channel waits 120 ticks, at most 184; a slot
+/// The burst bench case: slot 0 at 64, slot 16 at 184, slot 0 at 304. The channel waits 120 ticks, at most 184; a slot
 /// 240, which is more than that, at most 304.
 #[test]
 fn a_burst_in_differential() {
@@ -447,7 +447,7 @@ fn a_burst_with_the_timer_waits_for_it() {
     assert!(without.contains(&(184, 0)) && without.contains(&(184, 1)));
 }
 
-/// "With no stop ... from that start to the span's end": two channels at I = 64, each cycle stopped a tick before
+/// With a stop before the span's end it does not hold: two channels at I = 64, each cycle stopped a tick before
 /// channel 1 is stored at 192. It is never stored, though a cycle runs at every tick.
 #[test]
 fn a_stop_ends_what_is_covered() {

@@ -1,11 +1,11 @@
 //! The archive's sums over a window against those of the independent program.
 
-use checker::analog::Answer;
 use checker::archive;
-use checker::coverage::{kind, Coverage, Kind};
-use checker::lent::{lent, Lent};
-use checker::random::{seed_or, Random};
-use checker::window::{added_anew, plain, Window, LENGTHS};
+use checker::archive::lent::{lent, Lent};
+use checker::board::analog::Answer;
+use checker::board::window::{added_anew, plain, Window, LENGTHS};
+use checker::draw::random::{seed_or, Random};
+use checker::judge::coverage::{kind, Coverage, Kind};
 use std::ops::Range;
 
 const DRAWS: u32 = 150_000;
@@ -222,7 +222,7 @@ fn checks_in_order() {
     }
 }
 
-/// MANUALS.md 4.3 and 4.4: the code of a calibration run, and the sum of its 32 codes.
+/// The manuals' programming examples: the code of a calibration run, and the sum of its 32 codes.
 const CALIBRATIONS: [(u16, u32); 4] = [
     (32_768, 1_048_576),
     (48_824, 1_562_368),
@@ -277,8 +277,8 @@ fn check_ffffh(name: &str, length: u32, sum: u32, output: &[u32]) {
     assert_eq!(*past, 5, "{name}: past the run");
 }
 
-/// The header: "To go on after a run, put in front of the next one the length - 1 codes that came before
-/// it, or all where there were fewer, and pass over their sums."
+/// To go on after a run, put in front of the next one the length - 1 codes that came before it, or all where there were
+/// fewer, and pass over their sums: the header says so.
 #[test]
 fn a_run_in_two_parts() {
     let seed = seed_or(2);

@@ -304,7 +304,7 @@ class Saving(unittest.TestCase):
 
 class Volts(unittest.TestCase):
     def test_are_the_lowest_that_give_the_code(self):
-        """By document 01's formula of the code, in whole microvolts."""
+        """By the formula of the code (data sheet, "Code of a voltage"), in whole microvolts."""
         for range, (low, width) in enumerate([(-5, 10), (-10, 20), (0, 5), (0, 10)]):
             for gain in [0, 1, 2, 3]:
                 code_of = lambda v: (v * 2**gain - low * 10**6) * 65536 // (width * 10**6)

@@ -1,6 +1,6 @@
 //! How fast the archive plays, beside the independent program and, if PMC330_OLD_ARCHIVE named one
 //! when this was built, beside an older archive: mixed traces, single kinds of calls, a short, a
-//! longer and the longest advance in each scan mode, the longest trace, 02's load, and the same calls
+//! longer and the longest advance in each scan mode, the longest trace, the load, and the same calls
 //! stepped one by one; how fast it replays a recording, beside playing it; and how fast it sums over a
 //! window, beside a plain loop. Best of several rounds, the players in turn within a round.
 //!
@@ -8,18 +8,18 @@
 //! `-- replay` or `-- window` only that part, with `-- load FILE` the trace in that file, and with
 //! `-- load FILE SEED` that trace if it is the load of that seed.
 
+use checker::archive::stepped::SteppedBoard;
 use checker::archive::{self, Player, OLD_PLAYER};
+use checker::board::call::{Call, Calls};
+use checker::board::load::{is_load_of, load as independent_load, Loader};
+use checker::board::replay::{recording, replay};
+use checker::board::trace::{self, answer_of_bytes, decoded, trace_of, trace_of_fields};
+use checker::board::window::{plain, Window, LENGTHS};
 use checker::board::LONGEST_ADVANCE;
-use checker::call::Call;
-use checker::digest::fnv_1a;
-use checker::generator::{hostile, long_advances, middle_advances, short_advances};
-use checker::load::{is_load_of, load as independent_load, Loader};
-use checker::one_kind::{kinds, started, write_16, Kind};
-use checker::random::Random;
-use checker::replay::{recording, replay};
-use checker::stepped::SteppedBoard;
-use checker::trace::{self, answer_of_bytes, decoded, trace_of, trace_of_fields};
-use checker::window::{plain, Window, LENGTHS};
+use checker::draw::generator::{hostile, long_advances, middle_advances, short_advances};
+use checker::draw::one_kind::{kinds, started, write_16, Kind};
+use checker::draw::random::Random;
+use checker::judge::digest::fnv_1a;
 use std::hint::black_box;
 use std::time::Instant;
 
@@ -177,8 +177,8 @@ fn load_of(kind: &Kind) -> Load {
     }
 }
 
-/// Do all players know the calls of a kind, and do the same in them? An archive of before 02's A4 answers a
-/// trigger that arms alike, but ignores it: New Data shows that.
+/// Do all players know the calls of a kind, and do the same in them? An older archive, in which
+/// Start Convert alone arms, answers a trigger that arms alike, but ignores it: New Data shows that.
 fn is_measured(kind: &Kind) -> bool {
     let mut calls = kind.calls(1);
     calls.push(Call::Read {
@@ -274,7 +274,7 @@ fn longest_trace() {
     );
 }
 
-// The load of 02, A8, as the archive makes it, or from a file: every player plays these bytes.
+// The load as the archive makes it, or from a file: every player plays these bytes.
 
 const LOAD_SEED: u32 = 1;
 const LOAD_RANGE: u32 = 1;
@@ -356,15 +356,15 @@ fn print_made([archive, independent]: [f64; 2]) {
     );
 }
 
-fn load_of_02() {
+fn load_by_archive() {
     let (trace, best) = made_load();
     let (range, calls) = decoded(&trace).expect("a load is a good trace");
-    let what = format!("the load of 02, A8: seed {LOAD_SEED}");
+    let what = format!("the load of seed {LOAD_SEED}");
     print_stated(&what, range, calls.len(), &trace);
     print_made(best);
     print_played(&Load {
         trace,
-        ..load("the load of 02, A8", &calls)
+        ..load("the load", &calls)
     });
 }
 
@@ -689,7 +689,7 @@ fn all() {
     println!();
     longest_trace();
     println!();
-    load_of_02();
+    load_by_archive();
     println!();
     stepping();
     println!();
@@ -708,7 +708,7 @@ fn main() {
     let words: Vec<&str> = words.iter().map(String::as_str).collect();
     match words[..] {
         [] => all(),
-        ["load"] => load_of_02(),
+        ["load"] => load_by_archive(),
         ["load", name] => load_of_file(name, None),
         ["load", name, seed] => {
             let seed = seed.parse().unwrap_or_else(|_| usage());

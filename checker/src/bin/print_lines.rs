@@ -1,7 +1,7 @@
 //! What the program `pmc330_run` should print for standard input, by the independent player.
 //! The stored outputs of `examples/` and of the program's own test were written by it.
 
-use checker::trace::printed;
+use checker::board::trace::printed;
 use std::io::{self, Read, Write};
 
 fn main() -> io::Result<()> {

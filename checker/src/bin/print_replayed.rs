@@ -1,7 +1,7 @@
 //! What the program `pmc330_replay` should print for standard input, by the independent replay.
 //! The stored outputs of the recordings in `examples/` were written by it.
 
-use checker::replay::replayed;
+use checker::board::replay::replayed;
 use std::io::{self, Read, Write};
 
 fn main() -> io::Result<()> {

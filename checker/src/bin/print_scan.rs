@@ -10,10 +10,10 @@
 //! CALL counts from 1; TICK from the beginning of the trace, also after a reset. CODE, NEW and MISSED are hexadecimal,
 //! with slot 0 in bit 0. LINE is 1 where the request line is up.
 
-use checker::analog::Answer;
-use checker::call::Call;
-use checker::logbook::{Beginning, Event, Logbook};
-use checker::trace::decoded;
+use checker::board::analog::Answer;
+use checker::board::call::{Call, Calls};
+use checker::board::logbook::{Beginning, Event, Logbook};
+use checker::board::trace::decoded;
 use std::io::{self, Read, Write};
 
 fn main() -> io::Result<()> {

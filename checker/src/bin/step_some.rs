@@ -2,15 +2,15 @@
 //! cut off, replayed and played, and some loads: few enough to be run where every access to memory is looked at. It
 //! fails as the tests do, and prints three lines.
 
-use checker::any_bytes::{self, step_any_bytes};
 use checker::archive;
-use checker::coverage::Coverage;
-use checker::load::{calls_of, load};
-use checker::random::{seed_or, Random};
-use checker::recordings::made_up_recording;
-use checker::replay::replay;
-use checker::stepping::{self, step_a_list};
-use checker::trace::{self, borders, trace_of};
+use checker::archive::stepping::{self, step_a_list};
+use checker::board::load::{calls_of, load};
+use checker::board::replay::replay;
+use checker::board::trace::{self, borders, trace_of};
+use checker::draw::any_bytes::{self, step_any_bytes};
+use checker::draw::random::{seed_or, Random};
+use checker::draw::recordings::made_up_recording;
+use checker::judge::coverage::Coverage;
 
 const LISTS: u32 = 30;
 const CALLS: u32 = 500;

@@ -1,7 +1,7 @@
 //! Writes what `rt ci` holds the program `stored_traces` to. Run it in `checker/`:
 //! `cargo run --offline --bin store_traces`
 
-use checker::stored::stored;
+use checker::draw::stored::stored;
 use std::fs;
 use std::io;
 

@@ -10,7 +10,7 @@ use Rattle.analog.specs.Sentences.{AnsweredBy}
 use Rattle.analog.specs.declared.Refusal.{Refusal}
 use Rattle.analog.proofs.RefusalLaws.{number_some}
 
--- what the questions come to: all are met, or one meets a no, which refuses with its number
+-- what the questions come to: all are met, or one is answered with no and refuses with its number
 pub data Outcome : List Question → Type 0 where
   met : {questions : List Question} → all_met questions ≡ true → first_no questions ≡ 0 → asked questions ≡ Ok record {} → Outcome questions
   unmet :
@@ -27,7 +27,7 @@ outcome (q ∷ later) = go q.met refl (outcome later)
     go true e (unmet refusal some number err) = unmet refusal (rw e some) (rw e number) (rw e err)
     go false e later_outcome = unmet q.refusal (rw e refl) (rw e refl) (rw e refl)
 
--- all met: there is no first no
+-- all met: the number is 0
 pub none_first : (questions : List Question) → all_met questions ≡ true → first_no questions ≡ 0
 none_first questions e = go (outcome questions)
   where
@@ -35,7 +35,7 @@ none_first questions e = go (outcome questions)
     go (met all none ok) = none
     go (unmet refusal some number err) = absurd (false≢true (sym some ∙ e))
 
--- not all met: the first no has its number
+-- not all met: the number is not 0
 pub some_first : (questions : List Question) → all_met questions ≡ false → 0 < first_no questions
 some_first questions e = go (outcome questions)
   where
@@ -43,7 +43,7 @@ some_first questions e = go (outcome questions)
     go (met all none ok) = absurd (false≢true (sym e ∙ all))
     go (unmet refusal some number err) = omega (arith, number, number_some refusal)
 
--- no first no: all are met
+-- the number is 0: all are met
 pub none_asked : (questions : List Question) → first_no questions ≡ 0 → asked questions ≡ Ok record {}
 none_asked questions e = go (outcome questions)
   where
@@ -51,7 +51,7 @@ none_asked questions e = go (outcome questions)
     go (met all none ok) = ok
     go (unmet refusal some number err) = absurd (omega (arith, e, number, number_some refusal))
 
--- the number of the first no, by what `asked` gives
+-- the number of the first question that is answered with no, by what `asked` gives
 number_asked : (questions : List Question) → first_no questions ≡ number_of (with_value (asked questions) 0)
 number_asked questions = go (outcome questions)
   where
@@ -100,7 +100,7 @@ module _ (questions : List Question) (value : ℕ) where
             value = λ f. refl;
           })
 
--- an accepted answer has no first no
+-- where the answer is accepted, no question is answered with no
 pub accepted_none : (questions : List Question) (value : ℕ) → is_accepted (answered questions value) ≡ true → first_no questions ≡ 0
 unfolding answered
 accepted_none questions value e = go (outcome questions)

@@ -1,9 +1,10 @@
--- Document 01, "Questions asked of a call, in order": the answer of a call, and the number of the first no.
-use Rattle.std.specs.Prelude.{ℕ, ◌+◌, ◌*◌, Bool, true, false, cond, ◌&&◌, List, [], ◌∷◌, Result, Ok, Err, ⊤}
+-- The answer of a call: it is asked its questions in order, and the first that is answered with no refuses it
+-- (data sheet, "Refusals").
+use Rattle.std.specs.Prelude.{ℕ, ◌+◌, ◌*◌, Bool, true, false, if◌then◌else◌, ◌&&◌, List, [], ◌∷◌, Result, Ok, Err, ⊤}
 use Rattle.analog.specs.declared.Refusal.{Refusal}
 use Rattle.analog.specs.declared.Refusal.TheVariants.{BadWidth, BadOffset, Unmapped, BadValue, BadDirection, Busy, BadCode, NoScan, BadChannels, BadInterval, BadChannel, BadVoltage, BadTicks, BadRange, BadCalibration, BadCodes, BadSums, BadHeading, BadField, ShortBuffer, BadWindow, BadSlot, StrayAnswer, BadSeed, NoRoom}
 
--- the number of each refusal: that of its question in document 01 or 02
+-- the number of each refusal: that of its question
 abbrev pub number_of_refusal : Refusal → ℕ
 number_of_refusal BadWidth = 1
 number_of_refusal BadOffset = 2
@@ -35,7 +36,7 @@ number_of_refusal NoRoom = 28
 abbrev pub Answer : Type 0
 Answer = Result ℕ Refusal
 
--- the number of each case: "An accepted call has number 0", a refused one that of its question
+-- the number of each case: 0 if it is accepted, else that of its question
 abbrev pub number_of : Answer → ℕ
 number_of (Ok value) = 0
 number_of (Err refusal) = number_of_refusal refusal
@@ -57,20 +58,20 @@ pub record Question : Type 0 where
 abbrev pub question : Refusal → Bool → Question
 question refusal met = record { refusal = refusal; met = met }
 
--- the number of the first question that meets a no; 0 if none does
+-- the number of the first question that is answered with no; 0 if none is
 unfoldable pub first_no : List Question → ℕ
 first_no [] = 0
-first_no (q ∷ later) = cond q.met (first_no later) (number_of_refusal q.refusal)
+first_no (q ∷ later) = if q.met then first_no later else number_of_refusal q.refusal
 
--- no question meets a no
+-- no question is answered with no
 unfoldable pub all_met : List Question → Bool
 all_met [] = true
 all_met (q ∷ later) = q.met && all_met later
 
--- a call that is asked these questions, in order: the first that meets a no refuses it
+-- a call that is asked these questions, in order: the first that is answered with no refuses it
 unfoldable pub asked : List Question → Result ⊤ Refusal
 asked [] = Ok record {}
-asked (q ∷ later) = cond q.met (asked later) (Err q.refusal)
+asked (q ∷ later) = if q.met then asked later else Err q.refusal
 
 -- and it has this value if it is accepted
 abbrev pub with_value : Result ⊤ Refusal → ℕ → Answer

@@ -1,4 +1,4 @@
--- Exact fractions, so that document 01's formulas stand here as it writes them, and are rounded only where it says so.
+-- Exact fractions, so that the data sheet's formulas stand here as it writes them, and are rounded only where it says so.
 -- The operations are marked ℚ, as those of the integers are marked ℤ.
 use Rattle.std.specs.Prelude.{ℕ, zero, suc, ◌*◌, ◌/◌, ◌<◌, ℤ, pos, negsuc, neg_ℤ, ◌+ℤ◌, ◌-ℤ◌, ◌*ℤ◌}
 use Rattle.std.proofs.Common.{zero-lt-suc, mul-pos}

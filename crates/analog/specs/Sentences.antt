@@ -3,8 +3,8 @@ use Rattle.std.specs.Prelude.{ℕ, true, false, List, ◌≡◌, Err, IsErrAnd}
 use Rattle.analog.specs.Answers.{Answer, Question, first_no, all_met, asked, number_of, value_of, is_accepted}
 use Rattle.analog.specs.Correction.{correction_questions, corrected_answer}
 
--- an answer to a call that is asked these questions: "A call is refused if document 01's questions for it meet a no, and otherwise
--- it is accepted. A refused call's number is that of the first no, its value is 0"
+-- an answer to a call that is asked these questions: it is refused if one of them is answered with no, and otherwise accepted; if
+-- refused, its number is that of the first question that is answered with no, and its value is 0
 pub record AnsweredBy (questions : List Question) (answer : Answer) : Type 0 where
   pub refused : all_met questions ≡ false → IsErrAnd answer (λ refusal. asked questions ≡ Err refusal)
   pub accepted : all_met questions ≡ true → is_accepted answer ≡ true

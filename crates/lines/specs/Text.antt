@@ -1,11 +1,11 @@
--- Document 01, "Traces": the lines that the program prints, as bytes; and 02, A6's: those of a replay.
-use Rattle.std.specs.Prelude.{ℕ, zero, suc, ◌+◌, ◌*◌, ◌/◌, ◌%◌, ◌≤◌, ◌<◌, cond, ◌&&◌, List, [], ◌∷◌, ◌++◌, ◌≡◌, ltb, leb, length, take, drop, get_or}
+-- The lines that the programs print, as bytes (data sheet, "Traces" and "Recordings and replays").
+use Rattle.std.specs.Prelude.{ℕ, zero, suc, ◌+◌, ◌*◌, ◌/◌, ◌%◌, ◌≤◌, ◌<◌, if◌then◌else◌, ◌&&◌, List, [], ◌∷◌, ◌++◌, ◌≡◌, nat_lt, nat_le, length, take, drop, get_or}
 use Rattle.lines.specs.declared.Line.{Line}
 use Rattle.lines.specs.declared.Line.TheVariants.{Call, Refused, Agree, Differs}
 
--- the byte of a digit: '0' to '9', then 'A' to 'F', "capitals"
+-- the byte of a digit: '0' to '9', then 'A' to 'F'
 abbrev pub digit_of : ℕ → ℕ
-digit_of digit = cond (ltb digit 10) (48 + digit) (55 + digit)
+digit_of digit = if nat_lt digit 10 then 48 + digit else 55 + digit
 
 -- the last digits of a number to a base, so many of them, highest first
 unfoldable pub digits_of : (base count number : ℕ) → List ℕ
@@ -17,13 +17,13 @@ digits_of base (suc n) number = digits_of base n (number / base) ++ (digit_of (n
 unfoldable pub decimal_in : (places number : ℕ) → List ℕ
 decimal_in zero number = []
 decimal_in (suc n) number =
-    cond (ltb number 10) (digit_of number ∷ []) (decimal_in n (number / 10) ++ (digit_of (number % 10) ∷ []))
+    if nat_lt number 10 then digit_of number ∷ [] else decimal_in n (number / 10) ++ (digit_of (number % 10) ∷ [])
 
--- "both decimal": no leading zero, and "0" for 0. A number has at most one place more than it counts
+-- no leading zero, and '0' for 0. A number has at most one place more than it counts
 abbrev pub decimal_of : (number : ℕ) → List ℕ
 decimal_of number = decimal_in (suc number) number
 
--- "value as eight hexadecimal digits, capitals"
+-- a value as eight hexadecimal digits
 abbrev pub hex_of : (value : ℕ) → List ℕ
 hex_of value = digits_of 16 8 value
 
@@ -33,19 +33,19 @@ blank = 32 ∷ []
 abbrev pub newline : List ℕ
 newline = 10 ∷ []
 
--- "a line per call: index from 1 and number, both decimal, and value as eight hexadecimal digits, capitals, one blank between"
+-- the line of a call: its index from 1, the number and the value of its answer, one blank between
 abbrev pub line_of : (index number value : ℕ) → List ℕ
 line_of index number value = decimal_of index ++ blank ++ decimal_of number ++ blank ++ hex_of value ++ newline
 
--- "refused" and a blank
+-- the word `refused` and a blank
 abbrev pub refused_word : List ℕ
 refused_word = 114 ∷ 101 ∷ 102 ∷ 117 ∷ 115 ∷ 101 ∷ 100 ∷ 32 ∷ []
 
--- "A refused trace prints `refused` and its number, alone."
+-- the line of a refused trace: `refused` and its number
 unfoldable pub refused_of : (number : ℕ) → List ℕ
 refused_of number = refused_word ++ decimal_of number ++ newline
 
--- 02, A6: "says that all agree, with how many were compared": `agree` and the count; or `differs`, the index and the count
+-- the line of a replay: `agree` and how many answers were compared; or `differs`, the index of the call and that count
 abbrev pub agree_word : List ℕ
 agree_word = 97 ∷ 103 ∷ 114 ∷ 101 ∷ 101 ∷ 32 ∷ []
 
@@ -58,7 +58,7 @@ differs_word = 100 ∷ 105 ∷ 102 ∷ 102 ∷ 101 ∷ 114 ∷ 115 ∷ 32 ∷ []
 unfoldable pub differs_of : (index count : ℕ) → List ℕ
 differs_of index count = differs_word ++ decimal_of index ++ blank ++ decimal_of count ++ newline
 
--- "Each call's 5-byte answer (number 1, value 4)", "numbers low byte first"
+-- an answer has five bytes: its number in one, its value in four, low byte first
 abbrev pub number_in : (answers : List ℕ) (at : ℕ) → ℕ
 number_in answers at = get_or answers at 0
 
@@ -66,18 +66,18 @@ abbrev pub word_in : (answers : List ℕ) (at : ℕ) → ℕ
 word_in answers at =
     get_or answers at 0 + get_or answers (at + 1) 0 * 0x100 + get_or answers (at + 2) 0 * 0x10000 + get_or answers (at + 3) 0 * 0x1000000
 
--- the line of a call, by the calls before it: "index from 1"
+-- the line of a call, by how many calls are before it
 abbrev pub call_line : (answers : List ℕ) (call : ℕ) → List ℕ
 call_line answers call = line_of (call + 1) (number_in answers (5 * call)) (word_in answers (5 * call + 1))
 
--- "a line per call"
+-- a line for each call
 unfoldable pub lines_of : (answers : List ℕ) (calls : ℕ) → List ℕ
 lines_of answers zero = []
 lines_of answers (suc n) = lines_of answers n ++ call_line answers n
 
 -- what is printed of the answers of so many calls: all lines where each call has an answer, else nothing
 abbrev pub taken_lines : (answers : List ℕ) (calls : ℕ) → List ℕ
-taken_lines answers calls = cond (leb (5 * calls) (length answers)) (lines_of answers calls) []
+taken_lines answers calls = if nat_le (5 * calls) (length answers) then lines_of answers calls else []
 
 -- 32 bytes have room for a call's line, where the answers are bytes and the calls are counted in 32 bits
 abbrev pub EveryTextFits : Type 0
@@ -94,12 +94,12 @@ text_of (Differs index count) = differs_of index count
 
 -- what a buffer takes of a line: all of it where it has at least 32 bytes, else nothing
 abbrev pub taken : (line buffer : List ℕ) → List ℕ
-taken line buffer = cond (leb 32 (length buffer)) line []
+taken line buffer = if nat_le 32 (length buffer) then line else []
 
 -- what a buffer takes of the lines of so many calls: all of them where each call has an answer and there are 32 bytes for each, else nothing
 abbrev pub put_lines : (answers : List ℕ) (calls : ℕ) (buffer : List ℕ) → List ℕ
 put_lines answers calls buffer =
-    cond (leb (5 * calls) (length answers) && leb (32 * calls) (length buffer)) (lines_of answers calls) []
+    if nat_le (5 * calls) (length answers) && nat_le (32 * calls) (length buffer) then lines_of answers calls else []
 
 -- a buffer that begins with a text, of so many bytes, and is as before from there on; the last two facts follow, and let a caller take those bytes
 pub record Begins (text before after : List ℕ) (count : ℕ) : Type 0 where

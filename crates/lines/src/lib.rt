@@ -1,9 +1,9 @@
-// The lines that the programs print: one for each call, or one for a refused trace; and one for a replay.
+//! The lines that the programs print: one for each call, or one for a refused trace; and one for a replay.
 #![tactic(auto)]
 
 pub mod theorems;
 
-ghost use Rattle.std.specs.Prelude.{◌≡◌, ◌+◌, ◌*◌, ◌<◌, ◌≤◌, ◌%◌, ◌^◌, length, flat_map, leb, is_some, IfSome};
+ghost use Rattle.std.specs.Prelude.{◌≡◌, ◌+◌, ◌*◌, ◌<◌, ◌≤◌, ◌%◌, ◌^◌, length, flat_map, nat_le, is_some, IfSome};
 ghost use Rattle.std.specs.Simd.{first_chunks};
 ghost use Rattle.lines.specs.Text.{digit_of, hex_of, line_of, number_in, word_in, text_of, taken, put_lines, Begins};
 
@@ -32,16 +32,16 @@ fn put_parts(out: &mut [u8], parts: &[&[u8]]) -> usize
     at
 }
 
-// A line, with its line break.
+/// A line of text, with its line break: at most 32 bytes.
 #[derive(Clone, Copy, Debug, PartialEq, Eq)]
 pub enum Line {
-    // of a call: its index from 1, and its answer's number and value; an answer's bytes may hold any number
+    /// Of a call: its index, from 1, and its answer's number and value; an answer's bytes may hold any number.
     Call { index: u32, number: u8, value: u32 },
-    // of a refused trace; a number, since this crate stands on none of the board's
+    /// Of a refused trace: the refusal's number, since this crate stands on none of the board's.
     Refused { number: u8 },
-    // of a replay in which all agree
+    /// Of a replay in which all agree: how many answers were compared.
     Agree { count: u32 },
-    // of a replay with a difference
+    /// Of a replay with a difference: the index of the call, from 1, and how many answers were compared.
     Differs { index: u32, count: u32 },
 }
 
@@ -61,8 +61,8 @@ impl Line {
         }
     }
 
-    // The line in the first bytes of `out`, and their count; the other bytes stay. A buffer of less than 32 bytes takes none. Its
-    // promise stays beside `Display`: it cannot fail. Tried, a `Display` through it needs a check of text, which may fail.
+    /// The line in the first bytes of `out`, and their count; the other bytes stay. A buffer of less than 32 bytes takes none: 0.
+    // Beside `Display`, since it cannot fail. Tried, a `Display` through it needs a check of text, which may fail.
     pub fn put(self, out: &mut [u8]) -> usize
         ensures { Begins (taken (text_of self) out.old) out.old out.new result }
     {
@@ -116,11 +116,13 @@ impl fmt::Display for Line {
     }
 }
 
-// A line for each of so many calls, from their answers of five bytes each; none where an answer is missing. A count beside the
-// bytes: a player's buffer may be longer than its answers, or shorter than they would be.
+/// A line for each of so many calls, from their answers; none where an answer is missing. A count beside the bytes: a player's
+/// buffer may be longer than its answers, or shorter than they would be.
 #[derive(Clone, Copy, Debug)]
 pub struct CallLines<'a> {
+    /// Five bytes a call: the answer's number, and its value low byte first.
     pub answers: &'a [u8],
+    /// How many calls have a line.
     pub calls: u32,
 }
 
@@ -130,13 +132,14 @@ impl<'a> CallLines<'a> {
     fn answered(self) -> Option<&'a [[u8; 5]]>
         ensures count { IfSome result (λ answers. length answers.now ≡ self.entry.calls) }
         ensures bytes { IfSome result (λ answers. answers.now ≡ first_chunks 5 self.entry.calls self.entry.answers.now) }
-        ensures all { is_some result ≡ leb (5 * self.entry.calls) (length self.entry.answers.now) }
+        ensures all { is_some result ≡ nat_le (5 * self.entry.calls) (length self.entry.answers.now) }
     {
         let (answers, _) = self.answers.as_chunks();
         answers.get(..self.calls as usize)
     }
 
-    // The lines, likewise: none where an answer is missing, or where `out` has less than 32 bytes for each line.
+    /// The lines in the first bytes of `out`, and their count of bytes; the other bytes stay. None, and 0, where an answer is
+    /// missing, or where `out` has less than 32 bytes for each line.
     pub fn put(self, out: &mut [u8]) -> usize
         ensures { Begins (put_lines self.entry.answers.now self.entry.calls out.old) out.old out.new result }
     {

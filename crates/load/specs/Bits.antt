@@ -1,4 +1,4 @@
--- Document 02, A8: "Each step xors x with itself shifted left 13, then right 17, then left 5, all in 32 bits".
+-- The step of a load: exclusive or with x shifted left 13, then right 17, then left 5, all in 32 bits (data sheet, "Loads").
 use Rattle.std.specs.Prelude.{ℕ, zero, suc, ◌+◌, ◌*◌, ◌/◌, ◌%◌, ◌^◌}
 
 -- shifted left by so many places: what goes past 32 bits is lost
@@ -17,7 +17,7 @@ xor_in (suc bits) x y = (x + y) % 2 + 2 * xor_in bits (x / 2) (y / 2)
 unfoldable pub xor_of : (x y : ℕ) → ℕ
 xor_of x y = xor_in 32 x y
 
--- "xors x with itself shifted"
+-- exclusive or of x and x shifted
 abbrev pub xor_left : (places x : ℕ) → ℕ
 xor_left places x = xor_of x (shifted_left places x)
 

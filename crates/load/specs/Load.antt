@@ -1,5 +1,5 @@
--- Document 02, A8, "A load to run everywhere": a trace of calls made from a seed.
-use Rattle.std.specs.Prelude.{ℕ, zero, suc, ◌-◌, ◌*◌, ◌/◌, ◌%◌, Bool, cond, not, ◌&&◌, List, [], ◌∷◌, ◌++◌, map, eqb, ltb, leb, ℤ, pos, negsuc, ◌-ℤ◌, length, drop}
+-- A load: a trace of calls made from a seed (data sheet, "Loads").
+use Rattle.std.specs.Prelude.{ℕ, zero, suc, ◌-◌, ◌*◌, ◌/◌, ◌%◌, Bool, if◌then◌else◌, not, ◌&&◌, List, [], ◌∷◌, ◌++◌, map, ◌==◌, nat_lt, nat_le, ℤ, pos, negsuc, ◌-ℤ◌, length, drop}
 use Rattle.analog.specs.Answers.{Question, question, all_met, answered, Answer}
 use Rattle.pmc330_model.specs.Calls.{Call, read, write, input, advance, trigger, reset, look, clear}
 use Rattle.trace.specs.Fields.{Field, bytes_of_fields, fixed_bytes}
@@ -8,45 +8,44 @@ use Rattle.analog.specs.declared.Refusal.TheVariants.{BadSeed, BadRange, NoRoom}
 
 -- ---- the calls
 
--- "An input takes .. voltage (q modulo 20,000,001) - 10,000,000"
+-- the voltage of an input, in uV: -10,000,000 to 10,000,000
 abbrev pub voltage_of : (q : ℕ) → ℤ
 voltage_of q = pos (q % 20_000_001) -ℤ pos 10_000_000
 
--- "The width is 16 and the offset is (q modulo 64) times 4."
+-- the offset of a read or a write, whose width is 16
 abbrev pub offset_of : (q : ℕ) → ℕ
 offset_of q = q % 64 * 4
 
--- "picks: 0 to 2 read, 3 write, 4 input, 5 advance, 6 trigger, 7 reset"; "A written value is q modulo 65536"; "An input takes channel
--- q modulo 32"; "An advance takes q modulo 4096."
+-- a pick is 0 to 7: 0 to 2 read, 3 write, 4 input, 5 advance, 6 trigger, 7 reset
 unfoldable pub call_picked : (pick q : ℕ) → Call
 call_picked pick q =
-    cond (leb pick 2) (read 16 (offset_of q))
-    (cond (eqb pick 3) (write 16 (offset_of q) (q % 65_536))
-    (cond (eqb pick 4) (input (q % 32) (voltage_of q))
-    (cond (eqb pick 5) (advance (q % 4_096))
-    (cond (eqb pick 6) trigger reset))))
+    if nat_le pick 2 then read 16 (offset_of q)
+    else (if pick == 3 then write 16 (offset_of q) (q % 65_536)
+    else (if pick == 4 then input (q % 32) (voltage_of q)
+    else (if pick == 5 then advance (q % 4_096)
+    else (if pick == 6 then trigger else reset))))
 
--- "The new x modulo 8 picks"; "Let q be the whole part of x / 8."
+-- x modulo 8 picks the call, and its numbers are made from q, the whole part of x / 8
 abbrev pub call_from : (x : ℕ) → Call
 call_from x = call_picked (x % 8) (x / 8)
 
--- the list of calls: each step "gives one call"
+-- the list of calls: each step of x gives one
 unfoldable pub load_calls : (x calls : ℕ) → List Call
 load_calls x zero = []
 load_calls x (suc calls) = call_from (stepped x) ∷ load_calls (stepped x) calls
 
--- ---- the trace; 01, "Traces"
+-- ---- the trace
 
--- "numbers low byte first", in so many bytes
+-- a number in so many bytes, low byte first
 unfoldable pub low_bytes : (size n : ℕ) → List ℕ
 low_bytes zero n = []
 low_bytes (suc size) n = n % 256 ∷ low_bytes size (n / 256)
 
 -- what each place of a trace holds
 abbrev pub is_byte : ℕ → Bool
-is_byte n = ltb n 256
+is_byte n = nat_lt n 256
 
--- "two's complement", in 32 bits
+-- two's complement in 32 bits
 abbrev pub unsigned_of : ℤ → ℕ
 unsigned_of (pos n) = n
 unsigned_of (negsuc n) = 0xffff_ffff - n
@@ -66,11 +65,11 @@ field_for reset = field 0x06 []
 field_for (look slot) = field 0x07 (low_bytes 1 slot)
 field_for (clear slot) = field 0x08 (low_bytes 1 slot)
 
--- "First 00H, length 5: the fixed bytes "A330", then the range." A range above 3 is refused, so it is one byte
+-- the heading: the fixed bytes, then the range. A range above 3 is refused, so it is one byte
 abbrev pub heading_for : (range : ℕ) → Field
 heading_for range = field 0x00 (fixed_bytes ++ (range ∷ []))
 
--- "The load is a trace of stated range and number of calls"
+-- the trace, of a range and a number of calls
 unfoldable pub load_trace : (seed range calls : ℕ) → List ℕ
 load_trace seed range calls = bytes_of_fields (heading_for range ∷ map field_for (load_calls seed calls))
 
@@ -80,21 +79,21 @@ load_length seed range calls = length (load_trace seed range calls)
 
 -- ---- the call
 
--- "Checks: 27, seed 0, looked at first and 14 next. 28, a buffer too short for the trace or a trace over 18's length, after both."
+-- 27, the seed is not 0; 14, the range is at most 3; 28, the buffer has room for the trace, and it is no longer than a trace may be
 abbrev pub load_questions : (seed range calls room : ℕ) → List Question
 load_questions seed range calls room =
-    question BadSeed (not (eqb seed 0))
-    ∷ question BadRange (leb range 3)
-    ∷ question NoRoom (leb (load_length seed range calls) room && leb (load_length seed range calls) 16_777_216)
+    question BadSeed (not (seed == 0))
+    ∷ question BadRange (nat_le range 3)
+    ∷ question NoRoom (nat_le (load_length seed range calls) room && nat_le (load_length seed range calls) 16_777_216)
     ∷ []
 
--- "its length returned"
+-- the value is the length of the trace
 unfoldable pub load_answer : (seed range calls room : ℕ) → Answer
 load_answer seed range calls room = answered (load_questions seed range calls room) (load_length seed range calls)
 
--- "written to a lent buffer"; 01: "A refusal changes no lent buffer, and places past those written stay, in later requests too."
+-- the buffer afterwards: a refusal leaves it as it was, an accepted load the bytes past the trace
 unfoldable pub load_output : (seed range calls : ℕ) (out : List ℕ) → List ℕ
 load_output seed range calls out =
-    cond (all_met (load_questions seed range calls (length out)))
-    (load_trace seed range calls ++ drop (load_length seed range calls) out)
-    out
+    if all_met (load_questions seed range calls (length out))
+    then load_trace seed range calls ++ drop (load_length seed range calls) out
+    else out

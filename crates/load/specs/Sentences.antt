@@ -1,6 +1,6 @@
 -- What the data sheet says of a load. Proved in proofs/Sentences.antt (`xor_by_bits`, `shifts_by_bits`, `loads_answered`, `loads_read`,
 -- `loads_unique`, `loads_played`).
-use Rattle.std.specs.Prelude.{ℕ, ◌+◌, ◌-◌, ◌*◌, ◌^◌, ◌≤◌, ◌<◌, true, false, cond, not, ◌&&◌, List, [], ◌∷◌, map, ◌≡◌, leb, length, take, drop, pos, neg_ℤ, Ok, Err}
+use Rattle.std.specs.Prelude.{ℕ, ◌+◌, ◌-◌, ◌*◌, ◌^◌, ◌≤◌, ◌<◌, true, false, if◌then◌else◌, not, ◌&&◌, List, [], ◌∷◌, map, ◌≡◌, nat_le, length, take, drop, pos, neg_ℤ, Ok, Err}
 use Rattle.std.specs.List.{list_all}
 use Rattle.analog.specs.Answers.{all_met, value_of}
 use Rattle.analog.specs.Sentences.{AnsweredBy}
@@ -15,7 +15,7 @@ use Rattle.load.specs.Load.{load_calls, is_byte, field_for, load_trace, load_len
 
 -- Exclusive or by its bits: it has 32, and each is set where just one of the two is
 pub record XorByBits (x y : ℕ) : Type 0 where
-  pub bit : (place : ℕ) → place < 32 → bit_of place (xor_of x y) ≡ cond (bit_of place x) (not (bit_of place y)) (bit_of place y)
+  pub bit : (place : ℕ) → place < 32 → bit_of place (xor_of x y) ≡ (if bit_of place x then not (bit_of place y) else bit_of place y)
   pub most : xor_of x y < 2 ^ 32
 
 abbrev pub EveryXor : Type 0
@@ -24,15 +24,15 @@ EveryXor = (x y : ℕ) → XorByBits x y
 -- The shifts by their bits. To the left each goes up so many places, those below are 0, and those past 32 bits are lost; to the right
 -- each goes down so many places, and those below the lowest are lost
 pub record ShiftsByBits (places x : ℕ) : Type 0 where
-  pub left : (place : ℕ) → place < 32 → bit_of place (shifted_left places x) ≡ (leb places place && bit_of (place - places) x)
+  pub left : (place : ℕ) → place < 32 → bit_of place (shifted_left places x) ≡ (nat_le places place && bit_of (place - places) x)
   pub most : shifted_left places x < 2 ^ 32
   pub right : (place : ℕ) → bit_of place (shifted_right places x) ≡ bit_of (places + place) x
 
 abbrev pub EveryShift : Type 0
 EveryShift = (places x : ℕ) → ShiftsByBits places x
 
--- Sentence 1, of a load: refused where 27, 14 or 28 meets a no, and then the buffer stays; else the value is the trace's length, the
--- trace stands at the front, and the bytes past it stay
+-- Sentence 1, of a load: refused where 27, 14 or 28 is answered with no, and then the buffer stays; else the value is the trace's
+-- length, the trace stands at the front, and the bytes past it stay
 pub record AnsweredLoad (seed range calls : ℕ) (out : List ℕ) : Type 0 where
   pub answer : AnsweredBy (load_questions seed range calls (length out)) (load_answer seed range calls (length out))
   pub refused : all_met (load_questions seed range calls (length out)) ≡ false → load_output seed range calls out ≡ out
@@ -51,7 +51,7 @@ pub record AnsweredLoad (seed range calls : ℕ) (out : List ℕ) : Type 0 where
 abbrev pub EveryLoad : Type 0
 EveryLoad = (seed range calls : ℕ) (out : List ℕ) → AnsweredLoad seed range calls out
 
--- Read by the player's definitions, the load is of its range, its fields are calls alone, and these are the list that 02 describes.
+-- Read by the player's definitions, the load is of its range, its fields are calls alone, and these are the list of the seed.
 -- Every element is a byte if the range is below 256. There are 3 to 10 bytes a call, and 8 more
 pub record ReadLoad (seed range calls : ℕ) : Type 0 where
   pub stated : range_of (load_trace seed range calls) ≡ range
@@ -74,8 +74,8 @@ EveryUniqueLoad =
     → call_fields (fields_after trace) ≡ fields_after trace → calls_of trace ≡ load_calls seed calls
     → trace ≡ load_trace seed (range_of trace) calls
 
--- "the player accepts it with at least 5 answer bytes per call": what a load leaves at the front of its buffer is played, all its calls
--- are answered, and the answers are those of the logbook of 02's list
+-- The player accepts a load with at least 5 answer bytes per call: what it leaves at the front of its buffer is played, all its calls
+-- are answered, and the answers are those of the logbook of its list
 pub record PlayedLoad (seed range calls : ℕ) (trace answers : List ℕ) : Type 0 where
   pub accepted : all_met (trace_questions trace (length answers)) ≡ true
   pub result : played_result trace (length answers) ≡ 256 * calls

@@ -1,4 +1,4 @@
-// A load: a trace of calls made from a seed, the same on every machine.
+//! A load: a trace of calls made from a seed, the same on every machine.
 #![tactic(auto)]
 
 pub mod theorems;
@@ -16,7 +16,7 @@ use trace::LONGEST;
 // How many bytes the heading has.
 const HEADING: usize = 8;
 
-// One step of x: `<<` drops what goes past bit 31, as 02's "all in 32 bits" has it.
+// One step of x, in 32 bits: `<<` drops what goes past bit 31.
 #[tactic(auto, using(crate::proofs::BitLaws::step_is))]
 fn step(mut x: u32) -> u32
     ensures { result ≡ stepped x }
@@ -41,7 +41,7 @@ enum Kind {
 }
 
 impl Kind {
-    // The kind that x picks. Document 02 states it by this number; from here on it is a kind.
+    // The kind that x picks. The rule states it by this number; from here on it is a kind.
     #[tactic(auto, unfolding(crate::specs::Load::call_picked))]
     fn picked_by(x: u32) -> Self
         ensures { call_of_kind result (x / 8) ≡ call_from x }
@@ -157,8 +157,9 @@ fn put_calls(rest: &mut [u8], calls: Calls)
     }
 }
 
-// A load of so many calls at the front of the lent buffer. Accepted with the length of its trace; refused with 27, 14 or
-// 28, `out` stays.
+/// A load of so many calls at the front of `out`: a trace of range 0 to 3, made from a seed above 0 (data sheet, "Loads"). Gives
+/// the length of the trace in bytes, at most 8 + 10 × calls and 16,777,216; bytes past it stay. Refused with 27, 14 or 28, `out`
+/// stays.
 #[tactic(auto, unfolding(crate::specs::Load::load_answer, crate::specs::Load::load_output, crate::specs::Load::load_trace, trace::specs::Fields::bytes_of_fields, analog::specs::Answers::answered, analog::specs::Answers::asked, analog::specs::Answers::all_met))]
 pub fn load(seed: u32, range: u32, calls: u32, out: &mut [u8]) -> Answer
     ensures answer { result ≡ load_answer seed range calls (length out.old) }

@@ -1,5 +1,5 @@
 -- What the code's own steps promise. Nothing that a caller may cite stands here.
-use Rattle.std.specs.Prelude.{ℕ, ◌+◌, ◌-◌, ◌%◌, min, Bool, true, false, cond, not, ◌&&◌, ◌||◌, List, [], ◌≡◌, eqb, leb, ℤ, get_or, set}
+use Rattle.std.specs.Prelude.{ℕ, ◌+◌, ◌-◌, ◌%◌, min, Bool, true, false, if◌then◌else◌, not, ◌&&◌, ◌||◌, List, [], ◌≡◌, ◌==◌, nat_le, ℤ, get_or, set}
 use Rattle.pmc330_model.specs.Words.{View}
 use Rattle.pmc330_model.specs.Lent.{flag_at, byte_at, half_at, registers_in, cycle_in, words_of}
 use Rattle.pmc330_model.specs.Schedule.{is_differential, is_single, code_at, formatted_by, is_interrupting}
@@ -82,8 +82,8 @@ view_in r pending gains codes unread =
       registers = r;
       gains = gains;
       code = λ slot. get_or codes slot 0;
-      is_new = λ slot. leb 1 (get_or unread slot 0);
-      is_missed = λ slot. leb 2 (get_or unread slot 0);
+      is_new = λ slot. nat_le 1 (get_or unread slot 0);
+      is_missed = λ slot. nat_le 2 (get_or unread slot 0);
       pending = pending;
     }
 
@@ -101,44 +101,31 @@ plan_of r =
     }
 
 abbrev pub slot_by : Plan → (index : ℕ) (odd : Bool) → ℕ
-slot_by p index odd = (p.start + index + cond (p.differential && odd) 16 0) % 32
+slot_by p index odd = (p.start + index + (if p.differential && odd then 16 else 0)) % 32
 
 -- the cycle after a beginning, and after a store, by the plan
 abbrev pub begun_by : Plan → Cycle → Cycle
 begun_by p c =
-    let ends : Bool = leb p.last_place c.index in
-    record {
-      running = c.running;
-      lead = cond ends p.last_step p.step;
+    let ends : Bool = nat_le p.last_place c.index in
+    record c {
+      lead = if ends then p.last_step else p.step;
       lag = 64;
       waiting = true;
       slot = slot_by p c.index c.odd;
       ends = ends;
-      index = cond ends 0 (c.index + 1);
-      odd = cond ends (not c.odd) c.odd;
+      index = if ends then 0 else c.index + 1;
+      odd = if ends then not c.odd else c.odd;
     }
 
 abbrev pub stored_by : Plan → Cycle → Cycle
-stored_by p c =
-    cond (p.single && c.ends) idle_cycle
-    (record {
-      running = c.running;
-      lead = c.lead;
-      lag = c.lag;
-      waiting = false;
-      slot = c.slot;
-      ends = c.ends;
-      index = c.index;
-      odd = c.odd;
-    })
+stored_by p c = if p.single && c.ends then idle_cycle else record c { waiting = false }
 
 -- ---- events
 
 -- a beginning
 abbrev pub begun_scan : (range : ℕ) → Registers → (gains : List ℕ) (inputs : List ℤ) → Scan → Scan
 begun_scan range r gains inputs s =
-    record {
-      pending = s.pending;
+    record s {
       held = code_at range r gains inputs ((r.start + s.cycle.index) % 32);
       cycle = begun_cycle r s.cycle;
     }
@@ -146,9 +133,8 @@ begun_scan range r gains inputs s =
 -- a store in time, but for the mailboxes
 abbrev pub stored_scan : Registers → Scan → Scan
 stored_scan r s =
-    record {
+    record s {
       pending = s.pending || is_interrupting r s.cycle.ends;
-      held = s.held;
       cycle = stored_cycle r s.cycle;
     }
 
@@ -161,23 +147,13 @@ stored_unread s unread = set unread (s.cycle.slot % 32) (min 2 (get_or unread (s
 -- a beginning and a store outside an advance: the small record after them
 abbrev pub begun_core : Core → (inputs : List ℤ) (gains : List ℕ) → Core
 begun_core c inputs gains =
-    record {
-      range = c.range;
-      registers = c.registers;
-      pending = c.pending;
+    record c {
       held = code_at c.range c.registers gains inputs ((c.registers.start + c.cycle.index) % 32);
       cycle = begun_cycle c.registers c.cycle;
     }
 
 abbrev pub stored_core : Core → (ends : Bool) → Core
-stored_core c ends =
-    record {
-      range = c.range;
-      registers = c.registers;
-      pending = c.pending || is_interrupting c.registers ends;
-      held = c.held;
-      cycle = c.cycle;
-    }
+stored_core c ends = record c { pending = c.pending || is_interrupting c.registers ends }
 
 -- no mailbox and no count has changed, and none had before
 pub record Unmoved (before after : Mailboxes) : Type 0 where
@@ -192,7 +168,7 @@ pub record Kept (before after : Mailboxes) : Type 0 where
 
 -- the ticks to the end of a countdown, if one runs, and at most `left`
 abbrev pub step_to : (count left : ℕ) → ℕ
-step_to count left = cond (eqb count 0) left (min count left)
+step_to count left = if count == 0 then left else min count left
 
 -- a run of n ticks on a board whose arrays are lent: the board after them, and the stores made in them
 pub record RunOf (n : ℕ) (core : Core) (channels : Channels) (boxes : Mailboxes) (run : Run) (after : Mailboxes) : Type 0 where
@@ -204,27 +180,10 @@ pub record RunOf (n : ℕ) (core : Core) (channels : Channels) (boxes : Mailboxe
 
 -- the parity turned, if the flag says so
 abbrev pub turned_cycle : (turn : Bool) → Cycle → Cycle
-turned_cycle turn c =
-    record {
-      running = c.running;
-      lead = c.lead;
-      lag = c.lag;
-      waiting = c.waiting;
-      slot = c.slot;
-      ends = c.ends;
-      index = c.index;
-      odd = cond turn (not c.odd) c.odd;
-    }
+turned_cycle turn c = record c { odd = if turn then not c.odd else c.odd }
 
 abbrev pub turned_core : (turn : Bool) → Core → Core
-turned_core turn c =
-    record {
-      range = c.range;
-      registers = c.registers;
-      pending = c.pending;
-      held = c.held;
-      cycle = turned_cycle turn c.cycle;
-    }
+turned_core turn c = record c { cycle = turned_cycle turn c.cycle }
 
 -- the modes in which the parity has no effect
 pub record IgnoresParity (r : Registers) : Type 0 where

@@ -1,5 +1,5 @@
 -- The three widths, as the code has them, and an access that has one. Nothing that a caller may cite stands here.
-use Rattle.std.specs.Prelude.{ℕ, cond, eqb, ◌≡◌, Result, Ok, Err}
+use Rattle.std.specs.Prelude.{ℕ, if◌then◌else◌, ◌==◌, ◌≡◌, Result, Ok, Err}
 use Rattle.analog.specs.Answers.{asked}
 use Rattle.analog.specs.declared.Refusal.{Refusal}
 use Rattle.analog.specs.declared.Refusal.TheVariants.{BadWidth}
@@ -16,7 +16,10 @@ bits_of Word = 32
 
 -- the width of so many bits, or question 1's refusal
 abbrev pub width_of : (bits : ℕ) → Result Width Refusal
-width_of bits = cond (eqb bits 8) (Ok Byte) (cond (eqb bits 16) (Ok Half) (cond (eqb bits 32) (Ok Word) (Err BadWidth)))
+width_of bits =
+    if bits == 8 then Ok Byte
+    else (if bits == 16 then Ok Half
+    else (if bits == 32 then Ok Word else Err BadWidth))
 
 -- what an access holds, of which questions 1 to 3 are met
 pub record IsAccess (bits at : ℕ) (a : Access) : Type 0 where

@@ -1,4 +1,4 @@
-// The steps of a cycle: a conversion begins, and is stored.
+//! The steps of a cycle: a conversion begins, and is stored.
 ghost use Rattle.std.specs.Prelude.{◌≡◌, ◌+◌, ◌%◌, ◌<◌};
 ghost use Rattle.pmc330_model.specs.Schedule.{voltage_at, code_at};
 ghost use Rattle.pmc330_model.specs.Board.{lead_after};
@@ -8,32 +8,35 @@ use crate::fields;
 use crate::fields::Acquisition;
 use pmc330_model::{Cycle, Registers};
 
-// What conversions read, of each channel.
+/// What conversions read, of each channel.
 #[derive(Clone, Copy)]
 pub struct Channels<'a> {
+    /// in uV
     pub inputs: &'a [i32; 32],
+    /// gain fields, 0 to 3
     pub gains: &'a [u8; 32],
 }
 
-// What the registers say of a running cycle.
+/// What the registers say of a running cycle.
 #[derive(Clone, Copy)]
 pub struct Plan {
     pub start: u8,
-    // the place of a pass's last conversion
+    /// the place of a pass's last conversion
     pub last_place: u8,
-    // ticks from a beginning to the next one, within a pass and at its end; 0 for none, as in the cycle's `lead` that they become
+    /// ticks from a beginning to the next one, within a pass and at its end; 0 for none, as in the cycle's `lead` that they become
     pub step: u32,
     pub last_step: u32,
     pub single: bool,
     pub differential: bool,
 }
 
-// What changes of a board as time passes, but for its mailboxes.
+/// What changes of a board as time passes, but for its mailboxes.
 // Speed: with the whole small record in its place, long and hostile advances took 1.1 to 1.2 times as long. Made in one place, so
 // no From.
 #[derive(Clone, Copy)]
 pub struct Scan {
     pub pending: bool,
+    /// the straight code last taken
     pub held: u16,
     pub cycle: Cycle,
 }

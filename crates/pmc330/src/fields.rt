@@ -1,4 +1,4 @@
-// The fields of Control, and what the registers say of a scan.
+//! The fields of Control, and what the registers say of a scan.
 ghost use Rattle.std.specs.Prelude.{◌≡◌, eqb};
 ghost use Rattle.pmc330_model.specs.Map.{is_straight, trigger_field, scan_field, is_timer_enabled};
 ghost use Rattle.pmc330_model.specs.Schedule.{pass_length, interval, is_differential, is_uniform, is_burst, is_single, is_timed, is_trigger_only, is_interrupting, burst_delay};
@@ -6,7 +6,7 @@ ghost use Rattle.pmc330.specs.Fields.{scan_mode, trigger, acquisition, interrupt
 
 use pmc330_model::Registers;
 
-// What the fields of Control say. A code that is not used says nothing: no call writes one, but words that C lends may hold it.
+/// The scan field of Control. A code that is not used says nothing: no call writes one, but words that C lends may hold it.
 #[derive(Clone, Copy, Debug, PartialEq, Eq)]
 pub enum ScanMode {
     Off,
@@ -17,6 +17,7 @@ pub enum ScanMode {
     TriggerOnly,
 }
 
+/// The trigger field of Control.
 #[derive(Clone, Copy, Debug, PartialEq, Eq)]
 pub enum Trigger {
     Off,
@@ -24,14 +25,16 @@ pub enum Trigger {
     Output,
 }
 
+/// The acquisition field of Control.
 #[derive(Clone, Copy, Debug, PartialEq, Eq)]
 pub enum Acquisition {
     Differential,
     SingleEnded,
-    // the code, by which `analog` finds the voltage
+    /// the code, 3 to 7, by which `analog` finds the voltage
     Calibration(u32),
 }
 
+/// The interrupt field of Control.
 #[derive(Clone, Copy, Debug, PartialEq, Eq)]
 pub enum InterruptOn {
     NoStore,

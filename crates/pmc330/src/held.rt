@@ -1,4 +1,4 @@
-// The board but for its four arrays: a small record, and the 17 words that hold it where a board is lent.
+//! The board but for its four arrays: a small record, and the 17 words that hold it where a board is lent.
 ghost use Rattle.std.specs.Prelude.{not, ◌≡◌, ◌%◌, eqb};
 ghost use Rattle.pmc330_model.specs.Words.{to_bit};
 ghost use Rattle.pmc330_model.specs.Lent.{registers_in, cycle_in};
@@ -6,14 +6,15 @@ ghost use Rattle.pmc330.specs.Steps.{core_in, core_of, words_with};
 
 use pmc330_model::{Board, Cycle, Registers};
 
-// The small record of a board, passed by value: a Board would take its arrays along at each step, and with this as a field of
-// it each definition of the model would have to go through it.
+/// The small record of a board.
+// Passed by value: a Board would take its arrays along at each step, and with this as a field of it each definition of the model
+// would have to go through it.
 #[derive(Clone, Copy, Debug, PartialEq, Eq)]
 pub struct Core {
     pub range: u8,
     pub registers: Registers,
     pub pending: bool,
-    // the straight code last taken
+    /// the straight code last taken
     pub held: u16,
     pub cycle: Cycle,
 }

@@ -1,7 +1,7 @@
-// The calls in place, on a board that is lent in parts: its four arrays, and 17 words that hold the rest.
-// What a call changes is lent for change; the rest of the board is lent to be read, but for a look and a clear, which are
-// lent no more than they need. The arrays are parameters of their own, since C lends each for reading or for change.
-// Widths, offsets, ticks and the like are any numbers that C hands over, and a wrong one is refused.
+//! The calls in place, on a board that is lent in parts: its four arrays, and 17 words that hold the rest.
+//! What a call changes is lent for change; the rest of the board is lent to be read, but for a look and a clear, which are
+//! lent no more than they need. The arrays are parameters of their own, since C lends each for reading or for change.
+//! Widths, offsets, ticks and the like are any numbers that C hands over, and a wrong one is refused.
 #![tactic(auto, using(crate::proofs::HeldLaws::core_back, crate::proofs::QuestionLaws::slot_low), unfolding(pmc330_model::specs::Questions::call_questions, pmc330_model::specs::Board::after_call, pmc330_model::specs::Board::value_of_call, pmc330_model::specs::Board::board_call, analog::specs::Answers::asked, analog::specs::Answers::answered, analog::specs::Answers::first_no))]
 
 ghost use Rattle.std.specs.Prelude.{◌&&◌, cond, not, List, ◌≡◌, ℕ, ℤ, set};
@@ -19,7 +19,7 @@ use crate::{questions, starts, time, upcoming, words as map_words};
 use analog::Answer;
 use pmc330_model::{Cycle, Register};
 
-// A new board of a range, in place of what was lent. A refusal leaves that.
+/// A new board of a range, 0 to 3, in place of what was lent. Refused with 14, that stays.
 pub fn new(
     words: &mut [u32; 17],
     inputs: &mut [i32; 32],
@@ -54,7 +54,7 @@ fn after_read(unread: &mut [u8; 32], register: Register)
     }
 }
 
-// A register read.
+/// A register read, 8, 16 or 32 bits wide, at a byte offset of 0 to 255: what was read. Refused with 1, 2, 3 or 5.
 pub fn read(
     words: &[u32; 17],
     inputs: &[i32; 32],
@@ -104,7 +104,7 @@ fn after_write(
     next
 }
 
-// A register write.
+/// A register write, likewise, of a value that fits the width. Refused with 1 to 10.
 pub fn write(
     words: &mut [u32; 17],
     inputs: &[i32; 32],
@@ -131,7 +131,7 @@ pub fn write(
     Ok(0)
 }
 
-// A channel's input changes.
+/// A channel's input, 0 to 31, changes: -35,000,000 to 55,000,000 uV. Refused with 11 or 12.
 pub fn input(
     words: &[u32; 17],
     inputs: &mut [i32; 32],
@@ -149,7 +149,7 @@ pub fn input(
     Ok(0)
 }
 
-// Time passes.
+/// Time passes, up to 16,777,216 ticks of 125 ns: the stores made in them. Refused with 13.
 pub fn advance(
     words: &mut [u32; 17],
     inputs: &[i32; 32],
@@ -171,7 +171,7 @@ pub fn advance(
     Ok(run.stores)
 }
 
-// An external trigger.
+/// An external trigger: always accepted.
 pub fn trigger(
     words: &mut [u32; 17],
     inputs: &[i32; 32],
@@ -191,8 +191,8 @@ pub fn trigger(
     Ok(0) // a trigger is asked nothing
 }
 
-// A reset keeps the range and the inputs. Tried, one function that clears the rest, for this and `new`, has five parameters, and
-// is longer than the lines that it saves.
+/// A reset keeps the range and the inputs: always accepted.
+// Tried, one function that clears the rest, for this and `new`, has five parameters, and is longer than the lines that it saves.
 pub fn reset(
     words: &mut [u32; 17],
     inputs: &[i32; 32],
@@ -213,7 +213,8 @@ pub fn reset(
     Ok(0) // a reset is asked nothing
 }
 
-// A look at a slot: its code, and its New and Missed bits. It changes nothing, and the other parts do not matter.
+/// A look at a slot, 0 to 31: its code, 65,536 more if New, 131,072 more if Missed. It changes nothing. Refused with 22.
+/// The other parts do not matter.
 pub fn look(codes: &[u16; 32], unread: &[u8; 32], slot: u32) -> Answer
     ensures { (words : List ℕ) (inputs : List ℤ) (gains : List ℕ) → (result ≡ (look_call (board_in words inputs gains codes.now unread.now) slot).answer) × (board_in words inputs gains codes.now unread.now ≡ (look_call (board_in words inputs gains codes.now unread.now) slot).board) }
 {
@@ -222,7 +223,8 @@ pub fn look(codes: &[u16; 32], unread: &[u8; 32], slot: u32) -> Answer
     Ok(map_words::look_value(codes[at], unread[at]))
 }
 
-// A clear of a slot: its New and Missed bits, as a mailbox read clears them. The other parts do not matter.
+/// A clear of a slot, 0 to 31: its New and Missed bits, as a mailbox read clears them. Refused with 22.
+/// The other parts do not matter.
 pub fn clear(unread: &mut [u8; 32], slot: u32) -> Answer
     ensures { (words : List ℕ) (inputs : List ℤ) (gains codes : List ℕ) → (result ≡ (clear_call (board_in words inputs gains codes unread.old) slot).answer) × (board_in words inputs gains codes unread.new ≡ (clear_call (board_in words inputs gains codes unread.old) slot).board) }
 {
@@ -232,7 +234,7 @@ pub fn clear(unread: &mut [u8; 32], slot: u32) -> Answer
     Ok(0)
 }
 
-// The request line: enable and pending. The arrays do not matter.
+/// The request line, up where interrupts are enabled and one is pending. The arrays do not matter.
 pub fn request_line(words: &[u32; 17]) -> bool
     ensures { (inputs : List ℤ) (gains codes unread : List ℕ) → result ≡ request_line (board_in words.now inputs gains codes unread) }
 {
@@ -240,7 +242,7 @@ pub fn request_line(words: &[u32; 17]) -> bool
     core.registers.enable && core.pending
 }
 
-// The ticks to the next store if only time passes, if one is to come. The arrays do not matter.
+/// The ticks to the next store if only time passes; none if no store is to come. The arrays do not matter.
 #[tactic(auto, using(pmc330_model::proofs::NextStores::next_is))]
 pub fn next_store(words: &[u32; 17]) -> Option<u32>
     ensures { (inputs : List ℤ) (gains codes unread : List ℕ) → result ≡ if_any (next_store (board_in words.now inputs gains codes unread)) }

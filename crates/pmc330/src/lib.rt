@@ -1,5 +1,5 @@
-// The board's calls, by value. Each is equal to its definition in pmc330_model: a board is taken apart, the call made in place,
-// and the board put together. Widths, offsets and the like are any numbers: a wrong one is refused, as C's is.
+//! The board's calls, by value. Each is equal to its definition in pmc330_model: a board is taken apart, the call made in place,
+//! and the board put together. Widths, offsets and the like are any numbers: a wrong one is refused, as C's is.
 #![tactic(auto)]
 
 mod cycle;
@@ -38,7 +38,7 @@ fn stepped<F: FnOnce(&mut Parts) -> Answer>(b: Board, call: F) -> Reply
     }
 }
 
-// A new board of a range.
+/// A new board of a range: 0 is ±5 V, 1 ±10 V, 2 0 to 5 V, 3 0 to 10 V. Refused with 14, it is a new one of range 0.
 pub fn new(range: u32) -> Reply
     ensures { result ≡ new_call range }
 {
@@ -50,49 +50,49 @@ pub fn new(range: u32) -> Reply
     }
 }
 
-// A register read.
+/// A register read, 8, 16 or 32 bits wide, at a byte offset of 0 to 255: what was read. Refused with 1, 2, 3 or 5.
 pub fn read(b: Board, width: u32, offset: u32) -> Reply
     ensures { result ≡ read_call b width offset }
 {
     stepped(b, |parts| parts.read(width, offset))
 }
 
-// A register write.
+/// A register write, likewise, of a value that fits the width. Refused with 1 to 10.
 pub fn write(b: Board, width: u32, offset: u32, value: u32) -> Reply
     ensures { result ≡ write_call b width offset value }
 {
     stepped(b, |parts| parts.write(width, offset, value))
 }
 
-// A channel's input changes.
+/// A channel's input, 0 to 31, changes: -35,000,000 to 55,000,000 uV. Refused with 11 or 12.
 pub fn input(b: Board, channel: u32, microvolts: i32) -> Reply
     ensures { result ≡ input_call b channel microvolts }
 {
     stepped(b, |parts| parts.input(channel, microvolts))
 }
 
-// Time passes.
+/// Time passes, up to 16,777,216 ticks of 125 ns: the stores made in them. Refused with 13.
 pub fn advance(b: Board, ticks: u32) -> Reply
     ensures { result ≡ advance_call b ticks }
 {
     stepped(b, |parts| parts.advance(ticks))
 }
 
-// An external trigger.
+/// An external trigger: always accepted.
 pub fn trigger(b: Board) -> Reply
     ensures { result ≡ trigger_call b }
 {
     stepped(b, |parts| parts.trigger())
 }
 
-// A reset keeps the range and the inputs.
+/// A reset keeps the range and the inputs: always accepted.
 pub fn reset(b: Board) -> Reply
     ensures { result ≡ reset_call b }
 {
     stepped(b, |parts| parts.reset())
 }
 
-// A look at a slot: its code, and its New and Missed bits. It changes nothing.
+/// A look at a slot, 0 to 31: its code, 65,536 more if New, 131,072 more if Missed. It changes nothing. Refused with 22.
 #[tactic(auto, using(pmc330_model::proofs::Looks::looks_change_nothing))]
 pub fn look(b: Board, slot: u32) -> Look
     ensures { result ≡ look_call b slot }
@@ -101,21 +101,21 @@ pub fn look(b: Board, slot: u32) -> Look
     Look { board: b, answer }
 }
 
-// A clear of a slot: its New and Missed bits, as a mailbox read clears them.
+/// A clear of a slot, 0 to 31: its New and Missed bits, as a mailbox read clears them. Refused with 22.
 pub fn clear(b: Board, slot: u32) -> Reply
     ensures { result ≡ clear_call b slot }
 {
     stepped(b, |parts| parts.clear(slot))
 }
 
-// The request line: enable and pending.
+/// The request line, up where interrupts are enabled and one is pending.
 pub fn request_line(b: Board) -> bool
     ensures { result ≡ request_line b }
 {
     Parts::from(b).request_line()
 }
 
-// The ticks to the next store if only time passes, if one is to come.
+/// The ticks to the next store if only time passes; none if no store is to come.
 pub fn next_store(b: Board) -> Option<u32>
     ensures { result ≡ if_any (next_store b) }
 {

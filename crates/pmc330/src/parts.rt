@@ -1,5 +1,5 @@
-// A board that a Rattle program holds and steps in place: the parts that `lent` takes, held together. Clauses see the board.
-// Widths, offsets and the like are any numbers: a wrong one is refused, as C's is.
+//! A board that a Rattle program holds and steps in place: the parts that `lent` takes, held together. Clauses see the board.
+//! Widths, offsets and the like are any numbers: a wrong one is refused, as C's is.
 ghost use Rattle.std.specs.Prelude.{◌≡◌};
 ghost use Rattle.pmc330_model.specs.Board.{new_board, read_call, write_call, input_call, advance_call, trigger_call, reset_call, look_call, clear_call, request_line, next_store, if_any};
 ghost use Rattle.pmc330_model.specs.Lent.{open_call};
@@ -10,6 +10,7 @@ use analog::Answer;
 use pmc330_model::Board;
 use std::marker::Model;
 
+/// A board in its four arrays and the 17 words that hold the rest.
 #[derive(Drop)]
 pub struct Parts {
     words: [u32; 17],
@@ -84,7 +85,7 @@ impl Default for Parts {
 }
 
 impl Parts {
-    // A new board of a range, in place of this one. A refusal leaves it.
+    /// A new board of a range, 0 to 3, in place of this one. Refused with 14, this one stays.
     pub fn open(&mut self, range: u32) -> Answer
         ensures answer { result ≡ (open_call self.old range).answer }
         ensures board { self.new ≡ (open_call self.old range).board }
@@ -99,7 +100,7 @@ impl Parts {
         )
     }
 
-    // A register read.
+    /// A register read, 8, 16 or 32 bits wide, at a byte offset of 0 to 255: what was read. Refused with 1, 2, 3 or 5.
     pub fn read(&mut self, width: u32, offset: u32) -> Answer
         ensures answer { result ≡ (read_call self.old width offset).answer }
         ensures board { self.new ≡ (read_call self.old width offset).board }
@@ -115,7 +116,7 @@ impl Parts {
         )
     }
 
-    // A register write.
+    /// A register write, likewise, of a value that fits the width. Refused with 1 to 10.
     pub fn write(&mut self, width: u32, offset: u32, value: u32) -> Answer
         ensures answer { result ≡ (write_call self.old width offset value).answer }
         ensures board { self.new ≡ (write_call self.old width offset value).board }
@@ -132,7 +133,7 @@ impl Parts {
         )
     }
 
-    // A channel's input changes.
+    /// A channel's input, 0 to 31, changes: -35,000,000 to 55,000,000 uV. Refused with 11 or 12.
     pub fn input(&mut self, channel: u32, microvolts: i32) -> Answer
         ensures answer { result ≡ (input_call self.old channel microvolts).answer }
         ensures board { self.new ≡ (input_call self.old channel microvolts).board }
@@ -148,7 +149,7 @@ impl Parts {
         )
     }
 
-    // Time passes.
+    /// Time passes, up to 16,777,216 ticks of 125 ns: the stores made in them. Refused with 13.
     pub fn advance(&mut self, ticks: u32) -> Answer
         ensures answer { result ≡ (advance_call self.old ticks).answer }
         ensures board { self.new ≡ (advance_call self.old ticks).board }
@@ -163,7 +164,7 @@ impl Parts {
         )
     }
 
-    // An external trigger.
+    /// An external trigger: always accepted.
     pub fn trigger(&mut self) -> Answer
         ensures answer { result ≡ (trigger_call self.old).answer }
         ensures board { self.new ≡ (trigger_call self.old).board }
@@ -177,7 +178,7 @@ impl Parts {
         )
     }
 
-    // A reset keeps the range and the inputs.
+    /// A reset keeps the range and the inputs: always accepted.
     pub fn reset(&mut self) -> Answer
         ensures answer { result ≡ (reset_call self.old).answer }
         ensures board { self.new ≡ (reset_call self.old).board }
@@ -191,14 +192,14 @@ impl Parts {
         )
     }
 
-    // A look at a slot. It changes nothing.
+    /// A look at a slot, 0 to 31: its code, 65,536 more if New, 131,072 more if Missed. It changes nothing. Refused with 22.
     pub fn look(&self, slot: u32) -> Answer
         ensures { result ≡ (look_call self.now slot).answer }
     {
         lent::look(&self.codes, &self.unread, slot)
     }
 
-    // A clear of a slot: its New and Missed bits, as a mailbox read clears them.
+    /// A clear of a slot, 0 to 31: its New and Missed bits, as a mailbox read clears them. Refused with 22.
     pub fn clear(&mut self, slot: u32) -> Answer
         ensures answer { result ≡ (clear_call self.old slot).answer }
         ensures board { self.new ≡ (clear_call self.old slot).board }
@@ -206,14 +207,14 @@ impl Parts {
         lent::clear(&mut self.unread, slot)
     }
 
-    // The request line: enable and pending.
+    /// The request line, up where interrupts are enabled and one is pending.
     pub fn request_line(&self) -> bool
         ensures { result ≡ request_line self.now }
     {
         lent::request_line(&self.words)
     }
 
-    // The ticks to the next store if only time passes, if one is to come.
+    /// The ticks to the next store if only time passes; none if no store is to come.
     pub fn next_store(&self) -> Option<u32>
         ensures { result ≡ if_any (next_store self.now) }
     {

@@ -1,4 +1,4 @@
-// The questions of documents 01 and 02, asked in order: the first that meets a no refuses the call.
+//! The questions of a call, asked in order: the first that is answered with no refuses it (data sheet, "Refusals").
 #![tactic(auto, unfolding(analog::specs::Answers::asked))]
 
 ghost use Rattle.std.specs.Prelude.{◌≡◌, ◌^◌, ltb, leb, [], ◌∷◌, MatchResult};

@@ -1,4 +1,4 @@
-// A running cycle from event to event.
+//! A running cycle from event to event.
 ghost use Rattle.std.specs.Prelude.{◌&&◌, cond, false, ◌≡◌};
 ghost use Rattle.pmc330_model.specs.Jumps.{elapsed_by, jumped};
 ghost use Rattle.pmc330.specs.Steps.{plan_of, board_of, begun_scan, Kept};
@@ -7,7 +7,7 @@ use crate::cycle::{Channels, Plan, Scan};
 use crate::stores::Mailboxes;
 use pmc330_model::{Cycle, Registers};
 
-// What stays of a board while its cycle runs, but for its channels: a run from event to event works the plan out once.
+/// What stays of a board while its cycle runs, but for its channels: a run from event to event works the plan out once.
 #[derive(Clone, Copy)]
 pub struct Running {
     pub range: u8,

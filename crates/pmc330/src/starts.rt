@@ -1,4 +1,4 @@
-// A cycle begins, by Start Convert or by a trigger. Core, channels and boxes are three parameters, as in `time`.
+//! A cycle begins, by Start Convert or by a trigger. Core, channels and boxes are three parameters, as in `time`.
 ghost use Rattle.std.specs.Prelude.{◌&&◌, cond, List, ◌≡◌, ℕ, ◌+◌, ◌%◌, min, eqb, get_or, set};
 ghost use Rattle.pmc330_model.specs.Schedule.{interval, is_uniform, is_timed, is_trigger_only, formatted_by};
 ghost use Rattle.pmc330_model.specs.Questions.{has_channels, has_interval};
@@ -93,7 +93,7 @@ fn triggered_running(core: Core, channels: Channels, boxes: &mut Mailboxes) -> C
     core
 }
 
-// A trigger on an idle board in external trigger only (02, A4), ignored if question 9 is not met: the code last taken goes into
+// A trigger on an idle board in external trigger only, ignored if question 9 is not met: the code last taken goes into
 // the Start Channel's slot, then the armed cycle takes its first.
 #[tactic(auto, unfolding(pmc330_model::specs::Board::begun, pmc330_model::specs::Board::stored))]
 fn triggered_unarmed(core: Core, channels: Channels, boxes: &mut Mailboxes) -> Core

@@ -1,4 +1,4 @@
-// A store: the code goes into its mailbox and is counted.
+//! A store: the code goes into its mailbox and is counted.
 ghost use Rattle.std.specs.Prelude.{cond, false, ◌≡◌, ◌+◌, ◌%◌, min, get_or, set};
 ghost use Rattle.pmc330_model.specs.Schedule.{formatted_by};
 ghost use Rattle.pmc330.specs.Steps.{stored_scan, stored_codes, stored_unread, Kept};
@@ -8,13 +8,14 @@ use crate::fields;
 use crate::running::Running;
 use pmc330_model::Registers;
 
-// What stores write, of each slot: its code, and how many stores were not read. That a call gives both references back is a
-// clause (SameLoan), as the kit asks of each: tried as a model, the lists that were lent were not known after it.
+/// What stores write, of each slot: its code, and how many stores were not read.
+// That a call gives both references back is a clause (SameLoan), as the kit asks of each: tried as a model, the lists that were
+// lent were not known after it.
 #[derive(Drop)]
 pub struct Mailboxes<'a> {
     pub codes: &'a mut [u16; 32],
     pub unread: &'a mut [u8; 32],
-    // a store has changed a code or a count
+    /// a store has changed a code or a count
     pub changed: bool,
 }
 

@@ -1,4 +1,4 @@
-// Time passes: from event to event, and over whole repeats once the board comes back to itself.
+//! Time passes: from event to event, and over whole repeats once the board comes back to itself.
 ghost use Rattle.std.specs.Prelude.{◌&&◌, true, false, ◌≡◌, ◌≤◌, ◌<◌};
 ghost use Rattle.pmc330_model.specs.Schedule.{is_timed};
 ghost use Rattle.pmc330.specs.Steps.{step_to, Unmoved, RunOf, turned_core, IgnoresParity};
@@ -11,7 +11,7 @@ use crate::stores::Mailboxes;
 use crate::{fields, running};
 use pmc330_model::{Cycle, Registers};
 
-// A board after some ticks, but for its arrays, and the stores made in them.
+/// A board after some ticks, but for its arrays, and the stores made in them.
 #[derive(Clone, Copy)]
 pub struct Run {
     pub core: Core,

@@ -1,4 +1,4 @@
-// The next store: found from the countdowns, with no tick counted.
+//! The next store: found from the countdowns, with no tick counted.
 ghost use Rattle.std.specs.Prelude.{◌≡◌};
 ghost use Rattle.pmc330_model.specs.Jumps.{is_store_next, is_crowded, store_after_beginning, ticks_to_store, ticks_to_next_store};
 ghost use Rattle.pmc330_model.specs.Board.{if_any};

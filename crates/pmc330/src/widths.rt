@@ -1,4 +1,4 @@
-// The three widths of an access.
+//! The three widths of an access.
 ghost use Rattle.std.specs.Prelude.{◌≡◌, ◌/◌, ◌%◌, ◌^◌, eqb};
 ghost use Rattle.pmc330_model.specs.Questions.{is_aligned};
 ghost use Rattle.pmc330.specs.Widths.{bits_of, width_of};

@@ -1,4 +1,4 @@
-// What the words of the register map hold, and what a read or a write of any width covers of them.
+//! What the words of the register map hold, and what a read or a write of any width covers of them.
 ghost use Rattle.std.specs.Prelude.{cond, ◌≡◌, ◌+◌, ◌-◌, ◌*◌, ◌/◌, ◌%◌, ◌^◌, ◌≤◌, ◌<◌, leb, get_or, length, ℕ};
 ghost use Rattle.pmc330_model.specs.Map.{class_of};
 ghost use Rattle.pmc330_model.specs.Words.{joined, to_bit, held_word, read_word, read_bytes, written_byte, written_word, with_word, gains_from, gains_with, is_release, is_stop, is_start};

@@ -1,4 +1,4 @@
-// What C links: include/pmc330.h declares each function here and in `board`. C hands its numbers over one by one, and any numbers.
+//! What C links: include/pmc330.h declares each function here and in `board`. C hands its numbers over one by one, and any numbers.
 #![tactic(auto)]
 
 mod board;
@@ -16,7 +16,7 @@ ghost use Rattle.window.specs.Window.{window_answer, window_output};
 use analog::packed;
 use trace::Replayed;
 
-// The two-point correction of a raw code.
+/// The two-point correction of a raw code: 256 × the corrected code + number; the number is 0, 15, 16 or 17.
 #[unsafe(no_mangle)]
 pub extern "C" fn pmc330_corrected(
     range: u32,
@@ -32,7 +32,7 @@ pub extern "C" fn pmc330_corrected(
     packed(analog::corrected(range, gain, high, low, high_sum, low_sum, raw))
 }
 
-// The straight code of a voltage.
+/// The straight code, 0 to 65,535, of a voltage in uV. It refuses nothing: range and gain field count by their remainders by 4.
 #[unsafe(no_mangle)]
 pub extern "C" fn pmc330_code(range: u32, gain: u32, microvolts: i32) -> u32
     ensures { result ≡ code_of range gain microvolts }
@@ -40,7 +40,7 @@ pub extern "C" fn pmc330_code(range: u32, gain: u32, microvolts: i32) -> u32
     u32::from(analog::code(range, gain, microvolts))
 }
 
-// The sums of a running average's window: 256 × how many codes the last sum holds + number.
+/// The sums of a running average's window of 8, 16 or 32: 256 × how many codes the last sum holds + number, 0, 20 or 21.
 #[unsafe(no_mangle)]
 pub extern "C" fn pmc330_window(length: u32, codes: &[u16], sums: &mut [u32]) -> u64
     ensures result { result ≡ packed (window_answer length codes.now sums.old) }
@@ -49,7 +49,7 @@ pub extern "C" fn pmc330_window(length: u32, codes: &[u16], sums: &mut [u32]) ->
     packed(window::window_sums(length, codes, sums))
 }
 
-// A trace played on a new board, its answers put into the lent buffer: 256 × calls answered + number.
+/// A trace played on a new board, its answers put into the lent buffer: 256 × calls answered + number, 0, 18, 19, 20 or 26.
 #[unsafe(no_mangle)]
 pub extern "C" fn pmc330_play(trace: &[u8], answers: &mut [u8]) -> u64
     ensures result { result ≡ played_result trace.now (length answers.old) }
@@ -58,7 +58,7 @@ pub extern "C" fn pmc330_play(trace: &[u8], answers: &mut [u8]) -> u64
     packed(trace::play(trace, answers))
 }
 
-// A recording replayed on a new board: number + 2^8 × index + 2^32 × count.
+/// A recording replayed on a new board: number, 0, 18, 19 or 26, + 2^8 × index + 2^32 × count.
 #[unsafe(no_mangle)]
 pub extern "C" fn pmc330_replay(trace: &[u8]) -> u64
     ensures { result ≡ replay_result (replayed trace.now) }
@@ -72,7 +72,7 @@ pub extern "C" fn pmc330_replay(trace: &[u8]) -> u64
     }
 }
 
-// A load put into the lent buffer: 256 × the length of its trace, 0 where refused, + number.
+/// A load put into the lent buffer: 256 × the length of its trace, 0 where refused, + number, 0, 14, 27 or 28.
 #[unsafe(no_mangle)]
 pub extern "C" fn pmc330_load(seed: u32, range: u32, calls: u32, trace: &mut [u8]) -> u64
     ensures result { result ≡ packed (load_answer seed range calls (length trace.old)) }

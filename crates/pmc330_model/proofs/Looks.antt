@@ -1,4 +1,4 @@
--- Request A2: a look changes nothing and shows what the events say; a clear is logged as a read; a mailbox read is a look and
+-- A look changes nothing and shows what the events say; a clear is logged as a read; a mailbox read is a look and
 -- then a clear.
 use mathlib.Core.Path.{◌≡◌, refl, sym, ap, ◌∙◌}
 use Prim.Native.Nat.{ℕ, ◌+◌, ◌*◌, ◌<◌}

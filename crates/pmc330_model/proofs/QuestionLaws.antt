@@ -1,4 +1,4 @@
--- The questions of a call: where none meets a no, each is met.
+-- The questions of a call: where none is answered with no, each is met.
 use mathlib.Core.Bool.{Bool, true, false}
 use mathlib.Core.List.{List, ◌∷◌}
 use mathlib.Core.Path.{◌≡◌}
@@ -13,7 +13,7 @@ use Rattle.pmc330_model.specs.Calls.{write}
 use Rattle.pmc330_model.specs.Questions.{is_allowed, word_questions, resulting_word, call_questions}
 use Rattle.pmc330_model.specs.declared.Registers.{Registers}
 
--- where no question meets a no, each is met
+-- where no question is answered with no, each is met
 pub first_met : (refusal : Refusal) (met : Bool) (later : List Question) → first_no (question refusal met ∷ later) ≡ 0 → met ≡ true
 unfolding first_no
 first_met refusal met later e = grind arith

@@ -129,7 +129,7 @@ answers_agree_lem (call ∷ calls) l b h =
 pub answers_agree : EveryAnswer
 answers_agree range valid calls = answers_agree_lem calls (new_logbook range) (new_board range) (opening range)
 
--- ---- point D
+-- ---- jumps in time
 
 pub advanced_add : (n k : ℕ) (b : Board) → advanced k (advanced n b) ≡ advanced (n + k) b
 unfolding advanced

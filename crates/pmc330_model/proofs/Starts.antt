@@ -95,7 +95,7 @@ module _ (b : Board) (tick : ℕ) (cycle : Running) (events : List Event) (agree
   armed : is_timed b.registers ≡ false → is_trigger_only b.registers ≡ true → is_burst b.registers ≡ false → Started
   armed timed only other = no_burst other (fresh_agrees (inr (fresh_armed b.registers tick timed only)))
 
-  -- "A burst's first beginning is part of the call that starts it."
+  -- a burst's first beginning is part of the call that starts it
   first_place : fresh.cycle.index ≡ 0 % pass_length b.registers
   first_place = sym (zero-mod (pass_length b.registers))
 

@@ -178,7 +178,7 @@ module _ (b : Board) (tick T : ℕ) (triggers : List ℕ) (events : List Event) 
       unfolding stores_made
       counted = omega arith
 
-      -- "the board is idle from the last store"
+      -- the board is idle from the last store on
       cycle_ended : (is_single b.registers && ends_pass b.registers flight.j) ≡ true → (stored_in_time later).cycle ≡ idle_cycle
       cycle_ended e = rw (flight.ends, e)
 

@@ -1,4 +1,4 @@
--- Request A7, how long a channel can wait: a continuous scan that nothing ends makes every store of its schedule, at its tick.
+-- How long a channel waits: a continuous scan that nothing ends makes every store of its schedule, at its tick.
 use mathlib.Core.Bool.{Bool, true, false, cond, ◌&&◌, ◌||◌}
 use mathlib.Core.List.{List, [], ◌∷◌, ◌++◌}
 use mathlib.Core.Logic.{◌⊎◌, inl, inr, ⊎_elim}

@@ -37,7 +37,7 @@ pub data Case : Type 0 where
   interval_is : (expected : ℕ) → List Step → Case
   -- the request line after them
   line_is : (expected : Bool) → List Step → Case
-  -- the number of the first question of a call that meets a no on a new board of range 1; 0 if none does
+  -- the number of the first question of a call that is answered with no on a new board of range 1; 0 if none is
   first_no_is : (expected : ℕ) → Call → Case
   -- the answer of a new board of a range
   new_answers : (range : ℕ) → Answer → Case
@@ -94,8 +94,8 @@ seven_calls =
     ∷ new_low gives 0x0000
     ∷ []
 
--- "Control 0A09H, channels 0D03H, prescaler 80, timer 8, start at 0: I = 640; channel 3 stored at 704, 13 at 7104.
--- New Data low word is 1FF8H at 7103, 3FF8H and idle at 7104."
+-- Control 0A09H, channels 3 to 13, prescaler 80, timer 8, start at 0: I = 640; channel 3 is stored at 704, 13 at 7104. New Data's low
+-- word is 1FF8H at 7103; at 7104 it is 3FF8H and the board is idle
 abbrev pub uniform_single : List Step
 uniform_single =
     registers 0x0a09 0x0d03
@@ -116,7 +116,7 @@ uniform_single =
     ∷ if_idle gives 0
     ∷ []
 
--- "0401H, 0300H: stores at 64, 184, 304, 424."
+-- Control 0401H, channels 0 to 3: stores at 64, 184, 304 and 424
 abbrev pub burst_single : List Step
 burst_single =
     registers 0x0401 0x0300
@@ -135,7 +135,7 @@ burst_single =
     ∷ advance 1000 gives 0
     ∷ []
 
--- "0301H, 0000H: slot 0 at 64, slot 16 at 184, slot 0 at 304 with Missed bit 0."
+-- Control 0301H, channel 0: slot 0 at 64, slot 16 at 184, slot 0 at 304 with its Missed bit
 abbrev pub burst_continuous : List Step
 burst_continuous =
     registers 0x0301 0x0000
@@ -158,14 +158,14 @@ burst_continuous =
     ∷ missed_high gives 0x0000
     ∷ []
 
--- "Uniform, prescaler × timer 64 × 1 starts; 63 × 1 gives 10."
+-- uniform: prescaler × timer of 64 × 1 starts, 63 × 1 is refused by 10
 abbrev pub slow_enough : (control : ℕ) → List Step
 slow_enough control = registers control 0x0000 ++ times 64 1 ++ start gives 0 ∷ if_idle is_refused_by Busy ∷ []
 
 abbrev pub too_fast : (control : ℕ) → List Step
 too_fast control = registers control 0x0000 ++ times 63 1 ++ start is_refused_by BadInterval ∷ if_idle gives 0 ∷ []
 
--- "Differential End 15 starts; 16 gives 9."
+-- differential: End 15 starts, 16 is refused by 9
 abbrev pub last_pair : List Step
 last_pair = registers 0x0401 0x0f00 ++ start gives 0 ∷ if_idle is_refused_by Busy ∷ []
 
@@ -510,15 +510,15 @@ cases =
     ∷ answers (too_fast 0x0a01)
     ∷ answers last_pair
     ∷ answers no_pair
-    -- "Range 1, gain 1: 0 uV 8000H; -1 uV 7FFFH, FFFFH in two's complement; 10,000,000 uV FFFFH."
+    -- range 1, gain 1: 0 uV is 8000H; -1 uV is 7FFFH, in two's complement FFFFH; 10,000,000 uV is FFFFH
     ∷ code_is 1 0 (pos 0) true 0x8000
     ∷ code_is 1 0 (neg_ℤ (pos 1)) true 0x7fff
     ∷ code_is 1 0 (neg_ℤ (pos 1)) false 0xffff
     ∷ code_is 1 0 (pos 10_000_000) true 0xffff
-    -- "Range 3, gain 8: 612,500 uV 32112; 1,225,000 uV 64225."
+    -- range 3, gain 8: 612,500 uV is 32112, 1,225,000 uV is 64225
     ∷ code_is 3 3 (pos 612_500) true 32112
     ∷ code_is 3 3 (pos 1_225_000) true 64225
-    -- "Those two as sums 1,027,584 and 2,055,200: raw 32112 becomes 32113, 64225 stays, 0 becomes 1."
+    -- those two as sums, 1,027,584 and 2,055,200: raw 32112 becomes 32113, 64225 stays, 0 becomes 1
     ∷ corrected_to 3 3 0b101 0b110 2_055_200 1_027_584 32112 32113
     ∷ corrected_to 3 3 0b101 0b110 2_055_200 1_027_584 64225 64225
     ∷ corrected_to 3 3 0b101 0b110 2_055_200 1_027_584 0 1

@@ -1,6 +1,6 @@
--- The board's own step for each call. It keeps relative times; that they agree with document 01's schedule is sentence 3.
+-- The board's own step for each call. It keeps relative times; that they agree with the schedule is sentence 3.
 -- Every definition is total on every Board value: slots and channels count by their remainder by 32.
-use Rattle.std.specs.Prelude.{ℕ, zero, suc, ◌+◌, ◌-◌, ◌%◌, min, Bool, true, false, cond, not, ◌&&◌, ◌||◌, Option, Some, None, List, [], ◌∷◌, eqb, leb, ℤ, pos, get_or, set, replicate}
+use Rattle.std.specs.Prelude.{ℕ, zero, suc, ◌+◌, ◌-◌, ◌%◌, min, Bool, true, false, not, ◌&&◌, ◌||◌, Option, Some, None, List, [], ◌∷◌, ℤ, pos, slice_index, set, replicate, if◌then◌else◌, ◌==◌, nat_le}
 use Rattle.analog.specs.Answers.{Question, question, first_no, answered, Answer}
 use Rattle.pmc330_model.specs.Map.{if_mailbox, class_of, trigger_field}
 use Rattle.pmc330_model.specs.declared.Register.{Register}
@@ -21,20 +21,9 @@ idle_cycle = record { running = false; lead = 0; lag = 0; waiting = false; slot 
 
 -- the board with another cycle
 abbrev pub with_cycle : Board → Cycle → Board
-with_cycle b c =
-    record {
-      range = b.range;
-      inputs = b.inputs;
-      gains = b.gains;
-      codes = b.codes;
-      unread = b.unread;
-      pending = b.pending;
-      registers = b.registers;
-      held = b.held;
-      cycle = c;
-    }
+with_cycle b c = record b { cycle = c }
 
--- "A new board is idle, with no store to come and all registers, bits, codes and inputs 0."
+-- a new board is idle, with no store to come and all registers, bits, codes and inputs 0
 abbrev pub cleared_board : (range : ℕ) → (inputs : List ℤ) → Board
 cleared_board range inputs =
     record {
@@ -52,72 +41,47 @@ cleared_board range inputs =
 abbrev pub new_board : (range : ℕ) → Board
 new_board range = cleared_board range (replicate 32 (pos 0))
 
--- "A store puts the code in its slot and sets New, and Missed too if New was set already." Interrupting, "pending becomes 1"
+-- a store puts the code in its slot and sets New, and Missed too if New was set already; an interrupting one sets pending
 unfoldable pub stored : (slot : ℕ) (ends : Bool) → Board → Board
 stored slot ends b =
-    record {
-      range = b.range;
-      inputs = b.inputs;
-      gains = b.gains;
+    record b {
       codes = set b.codes (slot % 32) (formatted_by b.registers b.held);
-      unread = set b.unread (slot % 32) (min 2 (get_or b.unread (slot % 32) 0 + 1));
+      unread = set b.unread (slot % 32) (min 2 (slice_index b.unread (slot % 32) + 1));
       pending = b.pending || is_interrupting b.registers ends;
-      registers = b.registers;
-      held = b.held;
-      cycle = b.cycle;
     }
 
 -- the ticks from a beginning to the next one; 0 where none is to come
 abbrev pub lead_after : Registers → (ends : Bool) → ℕ
 lead_after r ends =
-    cond (is_timed r && not (is_single r && ends))
-    (cond (is_uniform r) (interval r) (120 + cond ends (burst_delay r) 0))
-    0
+    if is_timed r && not (is_single r && ends)
+    then (if is_uniform r then interval r else 120 + (if ends then burst_delay r else 0))
+    else 0
 
 -- the cycle after the next conversion has begun: its store 64 ticks later, its slot, and the place and parity of the one after it
 abbrev pub begun_cycle : Registers → Cycle → Cycle
 begun_cycle r c =
-    let ends : Bool = leb (pass_length r) (c.index + 1) in
-    record {
-      running = c.running;
+    let ends : Bool = nat_le (pass_length r) (c.index + 1) in
+    record c {
       lead = lead_after r ends;
       lag = 64;
       waiting = true;
-      slot = (r.start + c.index + cond (is_differential r && c.odd) 16 0) % 32;
+      slot = (r.start + c.index + (if is_differential r && c.odd then 16 else 0)) % 32;
       ends = ends;
-      index = cond ends 0 (c.index + 1);
-      odd = cond ends (not c.odd) c.odd;
+      index = if ends then 0 else c.index + 1;
+      odd = if ends then not c.odd else c.odd;
     }
 
--- the next conversion begins: "It takes its code when it begins; it is stored .. 64 ticks later"
+-- the next conversion begins: it takes its code now, and is stored 64 ticks later
 unfoldable pub begun : Board → Board
 begun b =
-    record {
-      range = b.range;
-      inputs = b.inputs;
-      gains = b.gains;
-      codes = b.codes;
-      unread = b.unread;
-      pending = b.pending;
-      registers = b.registers;
+    record b {
       held = code_at b.range b.registers b.gains b.inputs ((b.registers.start + b.cycle.index) % 32);
       cycle = begun_cycle b.registers b.cycle;
     }
 
--- the cycle after its conversion in progress is stored; "Single modes have k below m; the board is idle from the last store."
+-- the cycle after its conversion in progress is stored; in single modes the board is idle from the last store of the pass on
 abbrev pub stored_cycle : Registers → Cycle → Cycle
-stored_cycle r c =
-    cond (is_single r && c.ends) idle_cycle
-    (record {
-      running = c.running;
-      lead = c.lead;
-      lag = c.lag;
-      waiting = false;
-      slot = c.slot;
-      ends = c.ends;
-      index = c.index;
-      odd = c.odd;
-    })
+stored_cycle r c = if is_single r && c.ends then idle_cycle else record c { waiting = false }
 
 -- the store of the conversion in progress
 abbrev pub stored_in_time : Board → Board
@@ -125,37 +89,27 @@ stored_in_time b = with_cycle (stored b.cycle.slot b.cycle.ends b) (stored_cycle
 
 -- one tick passes in the cycle
 abbrev pub elapsed : Cycle → Cycle
-elapsed c =
-    record {
-      running = c.running;
-      lead = c.lead - 1;
-      lag = c.lag - 1;
-      waiting = c.waiting;
-      slot = c.slot;
-      ends = c.ends;
-      index = c.index;
-      odd = c.odd;
-    }
+elapsed c = record c { lead = c.lead - 1; lag = c.lag - 1 }
 
 -- in the tick to come the conversion in progress is stored; the next one begins
 abbrev pub is_store_due : Board → Bool
-is_store_due b = b.cycle.running && is_timed b.registers && eqb b.cycle.lag 1
+is_store_due b = b.cycle.running && is_timed b.registers && b.cycle.lag == 1
 
 abbrev pub is_beginning_due : Board → Bool
-is_beginning_due b = b.cycle.running && is_timed b.registers && eqb b.cycle.lead 1
+is_beginning_due b = b.cycle.running && is_timed b.registers && b.cycle.lead == 1
 
--- "In one tick a store comes before a beginning."
+-- in one tick a store comes before a beginning
 abbrev pub stored_if_due : (due : Bool) → Board → Board
-stored_if_due due b = cond due (stored_in_time b) b
+stored_if_due due b = if due then stored_in_time b else b
 
 abbrev pub begun_if_due : (due : Bool) → Board → Board
-begun_if_due due b = cond (due && b.cycle.running) (begun b) b
+begun_if_due due b = if due && b.cycle.running then begun b else b
 
 unfoldable pub ticked : Board → Board
 ticked b =
-    cond b.cycle.running
-    (begun_if_due (is_beginning_due b) (stored_if_due (is_store_due b) (with_cycle b (elapsed b.cycle))))
-    b
+    if b.cycle.running
+    then begun_if_due (is_beginning_due b) (stored_if_due (is_store_due b) (with_cycle b (elapsed b.cycle)))
+    else b
 
 -- n ticks, and the stores made in them
 unfoldable pub advanced : (n : ℕ) → Board → Board
@@ -164,12 +118,12 @@ advanced (suc n) b = advanced n (ticked b)
 
 unfoldable pub stores_in : (n : ℕ) → Board → ℕ
 stores_in zero b = 0
-stores_in (suc n) b = cond (is_store_due b) 1 0 + stores_in n (ticked b)
+stores_in (suc n) b = (if is_store_due b then 1 else 0) + stores_in n (ticked b)
 
 -- the first of n more ticks that makes a store, where `passed` ticks have passed; 0 if none of them does
 unfoldable pub first_store : (n passed : ℕ) → Board → ℕ
 first_store zero passed b = 0
-first_store (suc n) passed b = cond (is_store_due b) (suc passed) (first_store n (suc passed) (ticked b))
+first_store (suc n) passed b = if is_store_due b then suc passed else first_store n (suc passed) (ticked b)
 
 -- the ticks to the next store if only time passes; 0 if the longest advance makes none
 abbrev pub next_store : Board → ℕ
@@ -177,14 +131,14 @@ next_store b = first_store 16_777_216 0 b
 
 -- ticks of which 0 says that there are none, as the code has them
 abbrev pub if_any : (ticks : ℕ) → Option ℕ
-if_any ticks = cond (eqb ticks 0) None (Some ticks)
+if_any ticks = if ticks == 0 then None else Some ticks
 
 -- a cycle with no conversion begun
 abbrev pub fresh_cycle : Registers → Cycle
 fresh_cycle r =
     record {
       running = true;
-      lead = cond (is_uniform r) (interval r) 0;
+      lead = if is_uniform r then interval r else 0;
       lag = 0;
       waiting = false;
       slot = 0;
@@ -193,95 +147,66 @@ fresh_cycle r =
       odd = false;
     }
 
--- a cycle starts: "All New and Missed bits clear."
+-- a cycle starts: all New and Missed bits clear
 abbrev pub restarted : Board → Board
-restarted b =
-    record {
-      range = b.range;
-      inputs = b.inputs;
-      gains = b.gains;
-      codes = b.codes;
-      unread = replicate 32 0;
-      pending = b.pending;
-      registers = b.registers;
-      held = b.held;
-      cycle = fresh_cycle b.registers;
-    }
+restarted b = record b { unread = replicate 32 0; cycle = fresh_cycle b.registers }
 
--- "A burst's first beginning is part of the call that starts it."
+-- a burst's first beginning is part of the call that starts it
 unfoldable pub started : Board → Board
-started b = cond (is_burst b.registers) (begun (restarted b)) (restarted b)
+started b = if is_burst b.registers then begun (restarted b) else restarted b
 
--- a trigger that is taken: "its store first, then its code"
+-- a trigger that is taken: first the store of the conversion before, then the next one's code
 abbrev pub trigger_taken : Board → Board
-trigger_taken b = begun (cond b.cycle.waiting (stored b.cycle.slot b.cycle.ends b) b)
+trigger_taken b = begun (if b.cycle.waiting then stored b.cycle.slot b.cycle.ends b else b)
 
--- 02, A4: a trigger that "begins an armed cycle without clearing any bit". "As taken trigger 0 it stores the code last taken since
--- reset (0 if none), formatted, in the Start Channel's slot, and takes conversion 0. For interrupts it counts as a store that ends
--- no pass."
+-- a trigger before arming: it begins an armed cycle and clears no bit. It stores the code last taken since reset, 0 if none, in the
+-- Start Channel's slot, as a store that ends no pass, and takes conversion 0
 abbrev pub armed_by_trigger : Board → Board
 armed_by_trigger b = begun (with_cycle (stored b.registers.start false b) (fresh_cycle b.registers))
 
--- a trigger on an idle board: in external trigger only it arms "if question 9 is met, and is ignored if not" (02, A4); in scan
--- 001 to 100 it starts a cycle "if questions 9 and 10 are met"
+-- a trigger on an idle board: in external trigger only it arms if question 9 is met, in scan 001 to 100 it starts a cycle if 9 and 10
+-- are met, and else it is ignored
 abbrev pub triggered_idle : Board → Board
 triggered_idle b =
     let r : Registers = b.registers in
-    cond (is_trigger_only r)
-    (cond (has_channels r) (armed_by_trigger b) b)
-    (cond (is_timed r && has_channels r && has_interval r) (started b) b)
+    if is_trigger_only r then (if has_channels r then armed_by_trigger b else b)
+    else if is_timed r && has_channels r && has_interval r then started b
+    else b
 
 -- a trigger: taken, the beginning of a cycle, or ignored
 unfoldable pub triggered : Board → Board
 triggered b =
     let r : Registers = b.registers in
-    let taken : Bool = is_trigger_only r && eqb b.cycle.lag 0 in
-    cond (eqb (trigger_field r.control) 1)
-    (cond b.cycle.running (cond taken (trigger_taken b) b) (triggered_idle b))
-    b
+    let taken : Bool = is_trigger_only r && b.cycle.lag == 0 in
+    if trigger_field r.control == 1
+    then (if b.cycle.running then (if taken then trigger_taken b else b) else triggered_idle b)
+    else b
 
--- 02, A2: "Divide the mailbox read into a look, which gives code, New and Missed and changes nothing, and a clear, which drops
--- both bits."
+-- a look changes nothing, a clear drops New and Missed of its slot
 abbrev pub after_look : (slot : ℕ) → Board → Board
 after_look slot b = b
 
 abbrev pub after_clear : (slot : ℕ) → Board → Board
-after_clear slot b =
-    record {
-      range = b.range;
-      inputs = b.inputs;
-      gains = b.gains;
-      codes = b.codes;
-      unread = set b.unread slot 0;
-      pending = b.pending;
-      registers = b.registers;
-      held = b.held;
-      cycle = b.cycle;
-    }
+after_clear slot b = record b { unread = set b.unread slot 0 }
 
--- "A mailbox read of any width clears that slot's New and Missed bits": it "leaves the board as the look and then the clear do"
+-- a mailbox read of any width leaves the board as a look and then a clear do
 abbrev pub after_read : Register → Board → Board
 after_read register b = if_mailbox register (λ slot. after_clear slot (after_look slot b)) b
 
 -- an accepted write of a word, before the start that it may make
 abbrev pub word_written : Register → (word : ℕ) → Board → Board
 word_written register word b =
-    record {
-      range = b.range;
-      inputs = b.inputs;
+    record b {
       gains = gains_with register word b.gains;
-      codes = b.codes;
-      unread = b.unread;
       pending = b.pending && not (is_release register word);
       registers = with_word register word b.registers;
-      held = b.held;
-      cycle = cond (is_stop register word) idle_cycle b.cycle;
+      cycle = if is_stop register word then idle_cycle else b.cycle;
     }
 
 -- and with it
 unfoldable pub after_write : Register → (word : ℕ) → Board → Board
 after_write register word b =
-    cond (is_start register word) (started (word_written register word b)) (word_written register word b)
+    if is_start register word then started (word_written register word b) else word_written register word b
 
 -- what can be seen of the board
 abbrev pub view_of : Board → View
@@ -289,33 +214,21 @@ view_of b =
     record {
       registers = b.registers;
       gains = b.gains;
-      code = λ slot. get_or b.codes slot 0;
-      is_new = λ slot. leb 1 (get_or b.unread slot 0);
-      is_missed = λ slot. leb 2 (get_or b.unread slot 0);
+      code = λ slot. slice_index b.codes slot;
+      is_new = λ slot. nat_le 1 (slice_index b.unread slot);
+      is_missed = λ slot. nat_le 2 (slice_index b.unread slot);
       pending = b.pending;
     }
 
--- the board after an accepted call, and the call's value: "the read value, for an advance the number of stores made in it, .. else 0";
--- a look's is by 02, A2
+-- the board after an accepted call, and the call's value: what is read or looked at, the number of stores made in an advance, else 0
 unfoldable pub after_call : Board → Call → Board
 after_call b (read width offset) = after_read (class_of offset) b
 after_call b (write width offset value) =
     after_write (class_of offset) (resulting_word b.registers b.gains width offset value) b
-after_call b (input channel microvolts) =
-    record {
-      range = b.range;
-      inputs = set b.inputs channel microvolts;
-      gains = b.gains;
-      codes = b.codes;
-      unread = b.unread;
-      pending = b.pending;
-      registers = b.registers;
-      held = b.held;
-      cycle = b.cycle;
-    }
+after_call b (input channel microvolts) = record b { inputs = set b.inputs channel microvolts }
 after_call b (advance ticks) = advanced ticks b
 after_call b trigger = triggered b
--- "Reset restores this but keeps range and inputs."
+-- a reset restores a new board, but keeps range and inputs
 after_call b reset = cleared_board b.range b.inputs
 after_call b (look slot) = after_look slot b
 after_call b (clear slot) = after_clear slot b
@@ -330,12 +243,12 @@ value_of_call b _ = 0
 abbrev pub questions_of : Board → Call → List Question
 questions_of b call = call_questions b.registers b.gains (not b.cycle.running) call
 
--- A call: "A refused call is no read, input change, start, stop or release, and no tick passes in it."
+-- a call; one that is refused leaves the board as it was
 unfoldable pub board_call : Board → Call → Reply
 board_call b call =
     let questions : List Question = questions_of b call in
     record {
-      board = cond (eqb (first_no questions) 0) (after_call b call) b;
+      board = if first_no questions == 0 then after_call b call else b;
       answer = answered questions (value_of_call b call);
     }
 
@@ -365,19 +278,19 @@ look_call b slot = record { board = (board_call b (look slot)).board; answer = (
 abbrev pub clear_call : Board → (slot : ℕ) → Reply
 clear_call b slot = board_call b (clear slot)
 
--- 14. "Is a new board's range 0 to 3? No: 14, and the board returned is a new one of range 0."
+-- 14: a new board's range is 0 to 3; if not, the board handed back is a new one of range 0
 abbrev pub new_call : (range : ℕ) → Reply
 new_call range =
     record {
-      board = new_board (cond (leb range 3) range 0);
-      answer = answered (question BadRange (leb range 3) ∷ []) 0;
+      board = new_board (if nat_le range 3 then range else 0);
+      answer = answered (question BadRange (nat_le range 3) ∷ []) 0;
     }
 
--- "The request line is enable and pending."
+-- the request line is enable and pending
 abbrev pub request_line : Board → Bool
 request_line b = b.registers.enable && b.pending
 
--- "each call after the first gets the board that the call before it handed back"
+-- each call after the first gets the board that the call before it handed back
 unfoldable pub board_from : Board → List Call → Board
 board_from b [] = b
 board_from b (call ∷ calls) = board_from (board_call b call).board calls

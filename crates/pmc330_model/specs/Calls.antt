@@ -1,4 +1,4 @@
--- The calls of sentence 3's list, with their arguments: 01's, and look and clear of request A2.
+-- The calls of the lists that sentence 3 is about, with their arguments.
 use Rattle.std.specs.Prelude.{ℕ, ℤ}
 
 pub data Call : Type 0 where

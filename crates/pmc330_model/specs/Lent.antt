@@ -1,6 +1,6 @@
 -- A board that is lent in parts: its four arrays as they are, and the rest in 17 words: 0 the range, 1 to 6 the registers,
 -- 7 pending, 8 the code last taken, 9 to 16 the cycle. Whatever numbers the words contain, they hold a board.
-use Rattle.std.specs.Prelude.{ℕ, ◌%◌, Bool, cond, not, List, [], ◌∷◌, eqb, leb, ℤ, get_or}
+use Rattle.std.specs.Prelude.{ℕ, ◌%◌, Bool, not, List, [], ◌∷◌, ℤ, slice_index, if◌then◌else◌, ◌==◌, nat_le}
 use Rattle.analog.specs.Answers.{is_accepted}
 use Rattle.pmc330_model.specs.Words.{to_bit}
 use Rattle.pmc330_model.specs.Board.{new_board, new_call}
@@ -11,10 +11,10 @@ use Rattle.pmc330_model.specs.declared.Reply.{Reply}
 
 -- how a word is read: as it is; as a flag, set by any number but 0; as 8 or 16 bits, its low ones
 abbrev pub word_at : (words : List ℕ) (place : ℕ) → ℕ
-word_at words place = get_or words place 0
+word_at words place = slice_index words place
 
 abbrev pub flag_at : (words : List ℕ) (place : ℕ) → Bool
-flag_at words place = not (eqb (word_at words place) 0)
+flag_at words place = not (word_at words place == 0)
 
 abbrev pub byte_at : (words : List ℕ) (place : ℕ) → ℕ
 byte_at words place = word_at words place % 0x100
@@ -85,7 +85,7 @@ words_of b =
 
 -- the words after a call: those of the board that it hands back, or where it is refused the words as they were
 abbrev pub words_after : Reply → (words : List ℕ) → List ℕ
-words_after reply words = cond (is_accepted reply.answer) (words_of reply.board) words
+words_after reply words = if is_accepted reply.answer then words_of reply.board else words
 
 -- ---- the parts together
 
@@ -102,10 +102,10 @@ parts words inputs gains codes unread = record { words = words; inputs = inputs;
 abbrev pub held_by : Parts → Board
 held_by p = board_in p.words p.inputs p.gains p.codes p.unread
 
--- a new board in place of a lent one. 14 leaves what was lent: "A refusal changes no lent buffer"
+-- a new board in place of a lent one; one that is refused leaves what was lent
 abbrev pub open_call : Board → (range : ℕ) → Reply
 open_call b range =
     record {
-      board = cond (leb range 3) (new_board range) b;
+      board = if nat_le range 3 then new_board range else b;
       answer = (new_call range).answer;
     }

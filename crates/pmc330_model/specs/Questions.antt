@@ -1,6 +1,6 @@
--- Document 01, "Questions asked of a call, in order", and question 22 of document 02.
+-- The questions of each call, in order: the first that is answered with no refuses it with its number (data sheet, "Refusals").
 -- They are asked of the registers, the gains and whether the board is idle, so that the board and the logbook can both answer them.
-use Rattle.std.specs.Prelude.{ℕ, ◌/◌, ◌%◌, ◌^◌, Bool, true, cond, not, ◌&&◌, ◌||◌, List, [], ◌∷◌, ◌++◌, eqb, ltb, leb, ℤ, pos, neg_ℤ}
+use Rattle.std.specs.Prelude.{ℕ, ◌/◌, ◌%◌, ◌^◌, Bool, true, not, ◌&&◌, ◌||◌, List, [], ◌∷◌, ◌++◌, ℤ, pos, neg_ℤ, if◌then◌else◌, ◌==◌, nat_le, nat_lt}
 use Rattle.std.specs.Int.Signed.{le_z}
 use Rattle.analog.specs.Answers.{Question, question}
 use Rattle.pmc330_model.specs.Map.{class_of, is_mapped, is_readable, is_writable, trigger_field, acquisition_field, scan_field, is_timer_enabled, interrupt_field}
@@ -12,52 +12,50 @@ use Rattle.pmc330_model.specs.Calls.{Call, read, write, input, advance, trigger,
 use Rattle.pmc330_model.specs.declared.Registers.{Registers}
 use Rattle.analog.specs.declared.Refusal.TheVariants.{NoScan, BadChannels, BadInterval, BadWidth, BadOffset, Unmapped, BadDirection, Busy, BadCode, BadValue, BadChannel, BadVoltage, BadSlot, BadTicks}
 
--- 1. "Is the width 8, 16 or 32?"
+-- 1: the width is 8, 16 or 32
 abbrev pub is_width : ℕ → Bool
-is_width width = eqb width 8 || eqb width 16 || eqb width 32
+is_width width = width == 8 || width == 16 || width == 32
 
--- 2. "Is the offset below 256 and a multiple of width / 8?"
+-- 2: the offset is below 256 and a multiple of width / 8
 abbrev pub is_aligned : (width offset : ℕ) → Bool
-is_aligned width offset = ltb offset 256 && eqb (offset % (width / 8)) 0
+is_aligned width offset = nat_lt offset 256 && offset % (width / 8) == 0
 
--- 6. "Is the board idle, or is this a read, an Interrupt write, a Control write whose resulting scan field is 000,
--- or a Start Convert write that doesn't set bit 0?" Asked of a write, by the word and the Control that it results in
+-- 6, of a write, by the word and the registers that it results in: the board is idle, or this is a write of Interrupt, of Control
+-- with scan 000, or of Start Convert without bit 0
 abbrev pub is_allowed : (idle : Bool) → Register → (word : ℕ) → (resulting : Registers) → Bool
 is_allowed idle Interrupt word resulting = true
-is_allowed idle Control word resulting = idle || eqb (scan_field resulting.control) 0
+is_allowed idle Control word resulting = idle || scan_field resulting.control == 0
 is_allowed idle StartConvert word resulting = idle || not (bit_of 0 word)
 is_allowed idle _ word resulting = idle
 
--- "no not-used code": trigger 11, acquisition 010, scan 110 and 111, interrupt 11
+-- trigger 11, acquisition 010, scan 110 and 111 and interrupt 11 are not used
 abbrev pub has_used_codes : (control : ℕ) → Bool
 has_used_codes word =
-    not (eqb (trigger_field word) 3)
-    && not (eqb (acquisition_field word) 2)
-    && leb (scan_field word) 5
-    && not (eqb (interrupt_field word) 3)
+    not (trigger_field word == 3)
+    && not (acquisition_field word == 2)
+    && nat_le (scan_field word) 5
+    && not (interrupt_field word == 3)
 
--- 7. "Does the resulting Control hold no not-used code, and are the resulting Start and End Channel (10H only) at most 31?"
--- Every other write meets it
+-- 7: the resulting Control holds no code that is not used; the resulting Start and End Channel are at most 31
 abbrev pub is_valid : Register → (resulting : Registers) → Bool
 is_valid Control resulting = has_used_codes resulting.control
-is_valid Channels resulting = leb resulting.start 31 && leb resulting.end 31
+is_valid Channels resulting = nat_le resulting.start 31 && nat_le resulting.end 31
 is_valid _ resulting = true
 
--- 9. "Is Start at most End, and End at most 15 if differential?"
+-- 9: Start is at most End, and End at most 15 if differential
 abbrev pub has_channels : Registers → Bool
-has_channels r = leb r.start r.end && (not (is_differential r) || leb r.end 15)
+has_channels r = nat_le r.start r.end && (not (is_differential r) || nat_le r.end 15)
 
--- 10. "In uniform modes, is the timer enabled? In uniform modes, and in burst continuous with the timer enabled,
--- is I = prescaler × timer at least 64?"
+-- 10: in uniform modes the timer is enabled; there, and in burst continuous with the timer enabled, I is at least 64
 abbrev pub has_interval : Registers → Bool
 has_interval r =
     (not (is_uniform r) || is_timer_enabled r.control)
-    && (not (is_uniform r || eqb (scan_field r.control) 3 && is_timer_enabled r.control) || leb 64 (interval r))
+    && (not (is_uniform r || scan_field r.control == 3 && is_timer_enabled r.control) || nat_le 64 (interval r))
 
--- "Start Convert with bit 0 set, after 1 to 6": 8, 9 and 10
+-- 8, 9 and 10: of a write of Start Convert with bit 0 set, after the others
 abbrev pub start_questions : Registers → List Question
 start_questions r =
-    question NoScan (not (eqb (scan_field r.control) 0))
+    question NoScan (not (scan_field r.control == 0))
     ∷ question BadChannels (has_channels r)
     ∷ question BadInterval (has_interval r)
     ∷ []
@@ -80,37 +78,37 @@ word_questions r idle register word resulting =
     question BadDirection (is_writable register)
     ∷ question Busy (is_allowed idle register word resulting)
     ∷ question BadCode (is_valid register resulting)
-    ∷ cond (is_start register word) (start_questions r) []
+    ∷ (if is_start register word then start_questions r else [])
 
 abbrev pub write_questions :
     Registers → (idle : Bool) → (width offset value : ℕ) → Register → (word : ℕ) → (resulting : Registers) → List Question
 write_questions r idle width offset value register word resulting =
     access_questions width offset register
-    ++ (question BadValue (ltb value (2 ^ width)) ∷ word_questions r idle register word resulting)
+    ++ (question BadValue (nat_lt value (2 ^ width)) ∷ word_questions r idle register word resulting)
 
 -- the word that a write results in, of the registers as they are
 abbrev pub resulting_word : Registers → (gains : List ℕ) → (width offset value : ℕ) → ℕ
 resulting_word r gains width offset value = written_word width offset value (held_word r gains (class_of offset))
 
--- "Other calls": 11, 12 and 13
+-- 11 and 12: of an input change
 abbrev pub is_input : (microvolts : ℤ) → Bool
 is_input microvolts = le_z (neg_ℤ (pos 35_000_000)) microvolts && le_z microvolts (pos 55_000_000)
 
 abbrev pub input_questions : (channel : ℕ) → (microvolts : ℤ) → List Question
-input_questions channel microvolts = question BadChannel (leb channel 31) ∷ question BadVoltage (is_input microvolts) ∷ []
+input_questions channel microvolts = question BadChannel (nat_le channel 31) ∷ question BadVoltage (is_input microvolts) ∷ []
 
--- 02, A2: "Checks: 22, a slot above 31, looked at first." A look and a clear are asked nothing else, also while a cycle runs
+-- 22: all that a look and a clear are asked, also while a cycle runs
 abbrev pub slot_questions : (slot : ℕ) → List Question
-slot_questions slot = question BadSlot (leb slot 31) ∷ []
+slot_questions slot = question BadSlot (nat_le slot 31) ∷ []
 
--- the questions of each call, in order; a trigger and a reset are asked none
+-- the questions of each call, 13 of an advance; a trigger and a reset are asked none
 unfoldable pub call_questions : Registers → (gains : List ℕ) → (idle : Bool) → Call → List Question
 call_questions r gains idle (read width offset) = read_questions width offset (class_of offset)
 call_questions r gains idle (write width offset value) =
     let word : ℕ = resulting_word r gains width offset value in
     write_questions r idle width offset value (class_of offset) word (with_word (class_of offset) word r)
 call_questions r gains idle (input channel microvolts) = input_questions channel microvolts
-call_questions r gains idle (advance ticks) = question BadTicks (leb ticks 16_777_216) ∷ []
+call_questions r gains idle (advance ticks) = question BadTicks (nat_le ticks 16_777_216) ∷ []
 call_questions r gains idle trigger = []
 call_questions r gains idle reset = []
 call_questions r gains idle (look slot) = slot_questions slot

@@ -1,6 +1,6 @@
--- The sentences of the data sheet, but for request A7's, which are in Waiting.antt. Each `Every..` is proved in
--- proofs/Sentences.antt, those of the next store in proofs/NextStores.antt, those of request A2 in proofs/Looks.antt.
-use Rattle.std.specs.Prelude.{ℕ, suc, ◌+◌, ◌-◌, ◌*◌, ◌/◌, ◌%◌, ◌≤◌, ◌<◌, Bool, true, false, cond, not, ◌&&◌, List, [], ◌∷◌, ◌++◌, ◌≡◌, eqb, leb, length, Ok, Err}
+-- The sentences of the data sheet; how long a channel waits is in Waiting.antt. Each `Every..` is proved in proofs/Sentences.antt, those
+-- of the next store in proofs/NextStores.antt, those of looks and clears in proofs/Looks.antt.
+use Rattle.std.specs.Prelude.{ℕ, suc, ◌+◌, ◌-◌, ◌*◌, ◌/◌, ◌%◌, ◌≤◌, ◌<◌, Bool, true, false, not, ◌&&◌, List, [], ◌∷◌, ◌++◌, ◌≡◌, length, Ok, Err, if◌then◌else◌, ◌==◌, nat_le}
 use Rattle.analog.specs.Answers.{Question, all_met, value_of, is_accepted}
 use Rattle.analog.specs.Sentences.{AnsweredBy}
 use Rattle.analog.specs.Sums.{sum_of}
@@ -17,18 +17,18 @@ use Rattle.analog.specs.declared.Refusal.TheVariants.{BadRange}
 
 -- ---- Sentence 1
 
--- A call on a board, by the questions that it is asked: refused or accepted, with its number and value, as `AnsweredBy` says;
--- refused, "the board handed back equals it"
+-- A call on a board, by the questions that it is asked: refused or accepted, with its number and value, as `AnsweredBy` says. If it
+-- is refused, the board handed back equals the one handed in
 pub record Sentence1 (questions : List Question) (b : Board) (call : Call) : Type 0 where
   pub answer : AnsweredBy questions (board_call b call).answer
   pub board : all_met questions ≡ false → (board_call b call).board ≡ b
 
--- on every board: 01's questions and 02's, asked of its registers, its gains and whether a cycle runs
+-- on every board: the questions are asked of its registers, its gains and whether a cycle runs
 abbrev pub EveryCall1 : Type 0
 EveryCall1 =
     (b : Board) (call : Call) → Sentence1 (call_questions b.registers b.gains (not b.cycle.running) call) b call
 
--- after every list of calls: 01's questions and 02's, asked of what the logbook of the list holds, so that "idle" is 01's
+-- after every list of calls: the questions are asked of what the logbook of the list holds, so that "idle" is the logbook's word
 abbrev pub AfterList1 : (b : Board) → Logbook → Call → Type 0
 AfterList1 b l call = Sentence1 (call_questions l.registers l.gains (is_idle l.cycle) call) b call
 
@@ -48,8 +48,7 @@ EveryNew1 = (range : ℕ) → NewBoard1 range
 
 -- ---- Sentence 2
 
--- number and value of every call of a list are those that the logbook defines, so that what a driver or a panel sees is 01's
--- and 02's alone
+-- number and value of every call of a list are those that the logbook defines
 abbrev pub EveryAnswer : Type 0
 EveryAnswer = (range : ℕ) → range < 4 → (calls : List Call) → answers_of range calls ≡ logbook_answers range calls
 
@@ -60,17 +59,17 @@ pub record ReadsBit (b : Board) (offset place : ℕ) (bit : Bool) : Type 0 where
   pub accepted : is_accepted (read_call b 16 offset).answer ≡ true
   pub shown : bit_of place (value_of (read_call b 16 offset).answer) ≡ bit
 
--- What a 16-bit read of the board gives is what the logbook's events say. The clauses are the buyer's:
--- "Each mailbox holds the code of the last store made there since the last reset, 0 if none."
+-- what a 16-bit read of the board gives is what the logbook's events say
 pub record Sentence3 (b : Board) (l : Logbook) : Type 0 where
+  -- each mailbox holds the code of the last store made there since the last reset, 0 if none
   pub mailbox : (s : ℕ) → s < 32 → (read_call b 16 (0x80 + 4 * s)).answer ≡ Ok (last_store s l.events)
-  -- "A New Data bit is set exactly when at least one store in that mailbox, and a Missed Data bit exactly when at least two,
-  -- followed the last read of that mailbox, cycle start or reset." A trigger that begins an armed cycle is no cycle start (02, A4)
-  pub new_data : (s : ℕ) → s < 32 → ReadsBit b (0x14 + 4 * (s / 16)) (s % 16) (leb 1 (stores_since s l.events))
-  pub missed_data : (s : ℕ) → s < 32 → ReadsBit b (0x1c + 4 * (s / 16)) (s % 16) (leb 2 (stores_since s l.events))
-  -- "An interrupt is pending exactly when an interrupting store followed the last release or reset."
+  -- a New Data bit is set exactly when at least one store in that mailbox, and a Missed Data bit exactly when at least two, followed
+  -- the last read of that mailbox, cycle start or reset. A trigger that begins an armed cycle is no cycle start
+  pub new_data : (s : ℕ) → s < 32 → ReadsBit b (0x14 + 4 * (s / 16)) (s % 16) (nat_le 1 (stores_since s l.events))
+  pub missed_data : (s : ℕ) → s < 32 → ReadsBit b (0x1c + 4 * (s / 16)) (s % 16) (nat_le 2 (stores_since s l.events))
+  -- an interrupt is pending exactly when an interrupting store followed the last release or reset
   pub pending : ReadsBit b 0x00 1 (interrupted l.events)
-  -- 01: "The request line is enable and pending", enable as it was written
+  -- the request line is enable, as it was written, and pending
   pub line : request_line b ≡ (l.registers.enable && interrupted l.events)
 
 -- one claim over the whole list, of any length and with any arguments
@@ -81,7 +80,7 @@ EveryList3 = (range : ℕ) → range < 4 → (calls : List Call) → Sentence3 (
 abbrev pub last_conversion : Registers → ℕ
 last_conversion r = pass_length r - 1
 
--- "The stores are those of 01's schedule and no others." Of a logbook with a cycle of a timed mode, running since T:
+-- The stores are those of the schedule and no others. Of a logbook with a cycle of a timed mode, running since T:
 pub record InCycle (l : Logbook) (T : ℕ) (triggers : List ℕ) : Type 0 where
   -- what is due at a tick, after a delay, is conversion k exactly when k is scheduled and T + its beginning + the delay is that tick
   pub found :
@@ -137,15 +136,15 @@ stores_among (_ ∷ earlier) = stores_among earlier
 
 -- ---- when a cycle begins and ends
 
--- The calls that start a cycle, which is a cycle start among the events: a write of Start Convert with bit 0 set, if it is accepted;
--- while idle with trigger field 01, in scan 001 to 100, a trigger, if questions 9 and 10 are met
+-- The calls that start a cycle, which is a cycle start among the events: an accepted write of Start Convert with bit 0 set; while idle
+-- with trigger field 01, in scan 001 to 100, a trigger, if questions 9 and 10 are met
 abbrev pub starts_cycle : Logbook → Call → Bool
 starts_cycle l (write width offset value) =
     all_met (logbook_questions l (write width offset value))
     && is_start (class_of offset) (resulting_word l.registers l.gains width offset value)
 starts_cycle l trigger =
     is_idle l.cycle
-    && eqb (trigger_field l.registers.control) 1
+    && trigger_field l.registers.control == 1
     && is_timed l.registers
     && has_channels l.registers
     && has_interval l.registers
@@ -165,8 +164,10 @@ abbrev pub events_of : Logbook → Call → List Event
 events_of l (read width offset) = if_mailbox (class_of offset) (λ slot. was_read slot ∷ []) []
 events_of l (write width offset value) =
     let word : ℕ = resulting_word l.registers l.gains width offset value in
-    cond (is_start (class_of offset) word) (cycle_start ∷ []) (cond (is_release (class_of offset) word) (release ∷ []) [])
-events_of l trigger = cond (starts_cycle l trigger) (cycle_start ∷ []) []
+    if is_start (class_of offset) word then cycle_start ∷ []
+    else if is_release (class_of offset) word then release ∷ []
+    else []
+events_of l trigger = if starts_cycle l trigger then cycle_start ∷ [] else []
 events_of l reset = was_reset ∷ []
 events_of l (clear slot) = was_read slot ∷ []
 events_of l _ = []
@@ -179,7 +180,7 @@ pub record Scheduled (l : Logbook) : Type 0 where
       (call : Call) → starts_cycle l call ≡ true
       → logged l call
       ≡ with_happened l l.tick
-      (cond (is_burst l.registers) (code_at l.range l.registers l.gains l.inputs (channel_of l.registers 0)) l.taken)
+      (if is_burst l.registers then code_at l.range l.registers l.gains l.inputs (channel_of l.registers 0) else l.taken)
       (since l.tick [])
       (cycle_start ∷ l.events)
   -- no New or Missed bit is set then
@@ -196,10 +197,10 @@ pub record Scheduled (l : Logbook) : Type 0 where
   pub events :
       (call : Call) → all_met (logbook_questions l call) ≡ true → may_store l.registers call ≡ false
       → (logged l call).events ≡ (events_of l call ++ l.events)
-  -- a cycle begins with no trigger taken, or with the one that begins it: in external trigger only, 02, A4. An advance begins none
+  -- a cycle begins with no trigger taken, or in external trigger only with the one that begins it. An advance begins none
   pub started :
       (call : Call) (T : ℕ) (triggers : List ℕ) → l.cycle ≡ idle → (logged l call).cycle ≡ since T triggers
-      → (T ≡ l.tick) × (triggers ≡ cond (may_store l.registers call) (l.tick ∷ []) [])
+      → (T ≡ l.tick) × (triggers ≡ (if may_store l.registers call then l.tick ∷ [] else []))
   pub kept :
       (call : Call) (T later : ℕ) (triggers more : List ℕ) → l.cycle ≡ since T triggers → (logged l call).cycle ≡ since later more
       → later ≡ T
@@ -207,7 +208,7 @@ pub record Scheduled (l : Logbook) : Type 0 where
   -- otherwise a tick makes no store and takes no code
   pub untimed : is_timed l.registers ≡ false → tick_passes l ≡ with_happened l (suc l.tick) l.taken l.cycle l.events
   pub while_idle : l.cycle ≡ idle → tick_passes l ≡ with_happened l (suc l.tick) l.taken l.cycle l.events
-  -- "the code last taken": a call after which no cycle runs keeps it, but for an advance and a reset; so a stop forgets none
+  -- a call after which no cycle runs keeps the code last taken, but for an advance and a reset; so a stop forgets none
   pub code_kept : (call : Call) → is_timeless call ≡ true → (logged l call).cycle ≡ idle → (logged l call).taken ≡ l.taken
   -- external trigger only: the first trigger of a cycle that Start Convert armed takes conversion 0's code
   pub first :
@@ -225,8 +226,8 @@ pub record Scheduled (l : Logbook) : Type 0 where
       (since T (l.tick ∷ last ∷ earlier))
       (store (store_at l.registers l.tick l.taken (slot_of l.registers (length earlier)) (ends_pass l.registers (length earlier)))
       ∷ l.events)
-  -- 02, A4: while idle "it stores the code last taken since reset (0 if none), formatted, in the Start Channel's slot, and takes
-  -- conversion 0", if question 9 is met. The store is one "that ends no pass" and the only event: there is no cycle start
+  -- a trigger before arming, if question 9 is met: it stores the code last taken in the Start Channel's slot and takes conversion 0. The
+  -- store ends no pass and is the only event: there is no cycle start
   pub unarmed :
       l.cycle ≡ idle → is_trigger_only l.registers ≡ true → trigger_field l.registers.control ≡ 1
       → has_channels l.registers ≡ true
@@ -257,7 +258,7 @@ EveryStart =
     (range : ℕ) → range < 4 → (calls : List Call) (call : Call) → starts_cycle (logbook_of range calls) call ≡ true
     → (s : ℕ) → s < 32 → BitsClear (board_call (board_after range calls) call).board s
 
--- "An accepted advance of n counts as n ticks, a refused call as none." These are the ticks one by one, with their stores
+-- An accepted advance of n counts as n ticks, a refused call as none. These are the ticks one by one, with their stores
 pub record TicksCounted (l : Logbook) : Type 0 where
   pub passed :
       (n : ℕ) → all_met (call_questions l.registers l.gains (is_idle l.cycle) (advance n)) ≡ true
@@ -272,7 +273,7 @@ pub record TicksCounted (l : Logbook) : Type 0 where
 abbrev pub EveryTick : Type 0
 EveryTick = (l : Logbook) → TicksCounted l
 
--- ---- Point D
+-- ---- jumps in time
 
 -- two advances whose sum is accepted: each is accepted, they end where the sum does, and their stores add up
 pub record Joined (b : Board) (n k : ℕ) : Type 0 where
@@ -307,7 +308,7 @@ pub record AllJoined (b : Board) (ns : List ℕ) : Type 0 where
 abbrev pub EveryAdvances : Type 0
 EveryAdvances = (ns : List ℕ) (b : Board) → is_accepted (advance_call b (sum_of ns)).answer ≡ true → AllJoined b ns
 
--- ---- The next store
+-- ---- the next store
 
 -- an advance of fewer ticks makes no store, one of exactly that many makes one; 0: no advance makes any
 pub record NextStore (b : Board) (n : ℕ) : Type 0 where
@@ -324,22 +325,22 @@ EveryLastStore =
     (range : ℕ) → range < 4 → (calls : List Call) → next_store (board_after range calls) ≡ 0
     → (ns : List ℕ) → value_of_advances (board_after range calls) ns ≡ 0
 
--- ---- Request A2
+-- ---- looks and clears
 
--- A look, at any slot of any board, "changes nothing"
+-- a look, at any slot of any board, changes nothing
 abbrev pub EveryLook : Type 0
 EveryLook = (b : Board) (slot : ℕ) → (look_call b slot).board ≡ b
 
--- After every list of calls it gives "code, New and Missed", as the logbook's events say: those of sentence 3
+-- after every list of calls it gives the code, New and Missed that the logbook's events say
 abbrev pub EveryLookShown : Type 0
 EveryLookShown =
     (range : ℕ) → range < 4 → (calls : List Call) (slot : ℕ) → slot < 32
     → (look_call (board_after range calls) slot).answer
     ≡ Ok (last_store slot (logbook_of range calls).events
-    + cond (leb 1 (stores_since slot (logbook_of range calls).events)) 65_536 0
-    + cond (leb 2 (stores_since slot (logbook_of range calls).events)) 131_072 0)
+    + (if nat_le 1 (stores_since slot (logbook_of range calls).events) then 65_536 else 0)
+    + (if nat_le 2 (stores_since slot (logbook_of range calls).events) then 131_072 else 0))
 
--- "Both calls join sentence 3's list, where a clear counts as a read of that slot"; a look is no event
+-- a clear counts as a read of that slot's mailbox; a look is no event
 pub record SlotLogged (l : Logbook) (slot : ℕ) : Type 0 where
   pub looked : logged l (look slot) ≡ l
   pub cleared : slot < 32 → logged l (clear slot) ≡ logged l (read 16 (0x80 + 4 * slot))
@@ -347,8 +348,7 @@ pub record SlotLogged (l : Logbook) (slot : ℕ) : Type 0 where
 abbrev pub EverySlotLogged : Type 0
 EverySlotLogged = (l : Logbook) (slot : ℕ) → SlotLogged l slot
 
--- "The register read leaves the board as the look and then the clear do, and its value stays 01's": the bytes of the code that
--- its width covers
+-- a mailbox read leaves the board as a look and then a clear do; its value is the bytes of the code that its width covers
 pub record LookAndClear (b : Board) (width offset slot : ℕ) : Type 0 where
   pub looked : is_accepted (look_call b slot).answer ≡ true
   pub cleared : is_accepted (clear_call (look_call b slot).board slot).answer ≡ true

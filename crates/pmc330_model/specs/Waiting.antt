@@ -1,7 +1,7 @@
--- Request A7 of document 02, "How long a channel can wait", in its words; and beside it, not 02's: the wait of a slot, that of a
--- channel in burst mode, and that no figure below 64 would hold for both modes. Stores are events of the logbook, to which
--- sentences 2 and 3 hold the board. Proved in proofs/Waiting.antt.
-use Rattle.std.specs.Prelude.{ℕ, ◌+◌, ◌*◌, ◌≤◌, ◌<◌, Bool, true, false, cond, not, ◌&&◌, ◌||◌, List, [], ◌∷◌, ◌++◌, ◌≡◌, eqb, ltb, leb}
+-- How long a channel waits for its next store; beside it the wait of a slot, that of a channel in burst mode, and that no figure below
+-- 64 would hold for both modes. Stores are events of the logbook, to which sentences 2 and 3 hold the board. Proved in
+-- proofs/Waiting.antt.
+use Rattle.std.specs.Prelude.{ℕ, ◌+◌, ◌*◌, ◌≤◌, ◌<◌, Bool, true, false, not, ◌&&◌, ◌||◌, List, [], ◌∷◌, ◌++◌, ◌≡◌, if◌then◌else◌, ◌==◌, nat_le, nat_lt}
 use Rattle.pmc330_model.specs.Schedule.{is_uniform, is_burst, is_continuous, is_differential, slot_of, pass_ticks}
 use Rattle.pmc330_model.specs.Calls.{Call, write, advance}
 use Rattle.pmc330_model.specs.Logbook.{Event, was_reset, cycle_start, Store, store, Logbook, is_idle, logged, logbook_of}
@@ -15,8 +15,8 @@ unfoldable pub runs_on : Logbook → List Call → Bool
 runs_on l [] = true
 runs_on l (call ∷ calls) = not (stops_or_resets l call) && runs_on (logged l call) calls
 
--- A list of sentence 3 in which a cycle starts: the calls before, the call that starts it, and the calls after it, at least up to the
--- one in which the span ends. A list that stops or resets later begins with such a list
+-- A list of calls in which a cycle starts: the calls before, the call that starts it, and the calls after it, at least up to the one in
+-- which the span ends. A list that stops or resets later begins with such a list
 pub record CycleList : Type 0 where
   pub range : ℕ
   pub before : List Call
@@ -36,24 +36,23 @@ registers_of c = (at_start c).registers
 
 pub record RunsContinuously (c : CycleList) : Type 0 where
   pub valid : c.range < 4
-  -- "from a cycle's start": none runs before the call, one runs after it
+  -- no cycle runs before the call, one runs after it
   pub idle_before : is_idle (at_start c).cycle ≡ true
   pub runs_after : is_idle (logged (at_start c) c.start).cycle ≡ false
-  -- "in a continuous mode"
   pub mode : is_continuous (registers_of c) ≡ true
-  -- "with no stop or reset from that start to the span's end"
+  -- no stop or reset comes from that start to the span's end
   pub unstopped : runs_on (logged (at_start c) c.start) c.during ≡ true
 
 -- ---- the span
 
--- "any span .. that the list advances through", from T on; it may begin and end inside advances
+-- a span of ticks that the list advances through, from T on; it may begin and end inside advances
 pub record Span (c : CycleList) (t length : ℕ) : Type 0 where
   pub from : (at_start c).tick ≤ t
   pub to : t + length ≤ (at_end c).tick
 
--- "A span from tick t covers t + 1 to its end."
+-- a span from tick t covers t + 1 to its end
 abbrev pub covers : (t end tick : ℕ) → Bool
-covers t end tick = ltb t tick && leb tick end
+covers t end tick = nat_lt t tick && nat_le tick end
 
 -- whether a store since the last cycle start or reset passes a test
 unfoldable pub any_store : (test : Store → Bool) → List Event → Bool
@@ -63,23 +62,23 @@ any_store test (cycle_start ∷ earlier) = false
 any_store test (store made ∷ earlier) = test made || any_store test earlier
 any_store test (_ ∷ earlier) = any_store test earlier
 
--- "contains at least one store", in a slot that passes a test
+-- the span has at least one store in a slot that passes a test
 abbrev pub span_stores : (slots : ℕ → Bool) → (c : CycleList) → (t length : ℕ) → Bool
 span_stores slots c t length = any_store (λ made. slots made.slot && covers t (t + length) made.tick) (at_end c).events
 
--- "every scanned channel"
+-- a scanned channel
 pub record Scanned (r : Registers) (channel : ℕ) : Type 0 where
   pub first : r.start ≤ channel
   pub last : channel ≤ r.end
 
--- whether a slot is one of a channel's: "Its slot is the channel, plus 16 if differential and the pass is odd." No two scanned
--- channels share one: differential ones are at most 15
+-- whether a slot is one of a channel's: its own number, or if differential 16 more. No two scanned channels share one: differential
+-- ones are at most 15
 abbrev pub is_slot_of : Registers → (channel slot : ℕ) → Bool
-is_slot_of r channel slot = eqb slot channel || is_differential r && eqb slot (channel + 16)
+is_slot_of r channel slot = slot == channel || is_differential r && slot == channel + 16
 
 -- ---- the sentence
 
--- "any span of one pass plus 64 ticks .. contains at least one store of every scanned channel", here with any figure for the 64
+-- any span of one pass plus 64 ticks has at least one store of every scanned channel; here with any figure for the 64
 abbrev pub ChannelWaits : (more : ℕ) → Type 0
 ChannelWaits more =
     (c : CycleList) → RunsContinuously c
@@ -94,14 +93,14 @@ EveryWait = ChannelWaits 64
 -- Single ended or under calibration one pass plus 64 ticks as well; differential two passes plus 64, since a slot takes its channel's
 -- store in every other pass
 abbrev pub slot_passes : Registers → ℕ
-slot_passes r = cond (is_differential r) 2 1
+slot_passes r = if is_differential r then 2 else 1
 
 -- of the slot of any conversion
 abbrev pub EverySlotWait : Type 0
 EverySlotWait =
     (c : CycleList) → RunsContinuously c
     → (t k : ℕ) → Span c t (slot_passes (registers_of c) * pass_ticks (registers_of c) + 64)
-    → span_stores (eqb (slot_of (registers_of c) k)) c t (slot_passes (registers_of c) * pass_ticks (registers_of c) + 64) ≡ true
+    → span_stores (λ slot. slot_of (registers_of c) k == slot) c t (slot_passes (registers_of c) * pass_ticks (registers_of c) + 64) ≡ true
 
 -- ---- beside it: burst mode, where a pass alone is enough
 

@@ -1,6 +1,6 @@
-// Replays the recording on standard input, of which it takes the first 32,768 bytes, and prints one line: that all agree, the
-// first call whose answer is not the recorded one, or why the trace is refused.
-// A read or a write that fails ends it with that error.
+//! Replays the recording on standard input, of which it takes the first 32,768 bytes, and prints one line: that all agree, the
+//! first call whose answer is not the recorded one, or why the trace is refused.
+//! A read or a write that fails ends it with that error.
 #![tactic(auto)]
 
 ghost use Rattle.std.specs.Prelude.{◌≡◌, take, OnOk, IfSome};

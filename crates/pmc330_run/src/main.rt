@@ -1,6 +1,6 @@
-// Plays the trace on standard input, of which it takes the first 32,768 bytes, and prints a line for each call, or one line for a
-// refused trace.
-// A read or a write that fails ends it with that error.
+//! Plays the trace on standard input, of which it takes the first 32,768 bytes, and prints a line for each call, or one line for a
+//! refused trace.
+//! A read or a write that fails ends it with that error.
 #![tactic(auto)]
 
 ghost use Rattle.std.specs.Prelude.{take, IfSome, OnOk};

@@ -1,4 +1,4 @@
-// What a program reads: its input into a buffer of a fixed size.
+//! What a program reads: its input into a buffer of a fixed size.
 #![tactic(auto)]
 
 ghost use Rattle.std.specs.Prelude.{◌<◌, ◌≤◌, ◌≡◌, length, take, IfOk, OnErr, IfSome};
@@ -8,11 +8,11 @@ ghost use Rattle.reads.specs.Front.{FrontConsumed};
 use std::io;
 use std::io::Read;
 
-// How many bytes of its input a program takes.
+/// How many bytes of its input a program takes.
 pub const MOST_BYTES: usize = 32_768;
 
-// Reads until the buffer is full or the input ends, and gives how many bytes came. A read that fails ends it with that error: the
-// bytes that came before it stand at the front of the buffer, and the reader has lost no others.
+/// Reads until the buffer is full or the input ends, and gives how many bytes came. A read that fails ends it with that error: the
+/// bytes that came before it stand at the front of the buffer, and the reader has lost no others.
 // Two things no clause can say of every reader: what it leaves in the buffer past the bytes that it gave, and that an error was
 // its own. The programs use neither, and the tests try both.
 // A loop of its own: std's `read_exact` fails where the input is short, and `read_to_end` allocates.

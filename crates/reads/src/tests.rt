@@ -1,4 +1,4 @@
-// What no clause can say of any reader: that reading succeeds, that a read which fails ends it, and what is left of the buffer.
+//! What no clause can say of any reader: that reading succeeds, that a read which fails ends it, and what is left of the buffer.
 use crate::read_full;
 use std::io;
 use std::io::Read;

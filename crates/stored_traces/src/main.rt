@@ -1,7 +1,7 @@
-// Plays stored traces; the checker wrote both what is read here and what must come out, its file 'stdout'.
-// Read, over and over: the trace's length and the answer buffer's, two bytes each, low byte first; the trace; the buffer.
-// Written for each: the result as 16 hexadecimal digits, and the buffer after the call.
-// A read or a write that fails ends it with that error.
+//! Plays stored traces; the checker wrote both what is read here and what must come out, its file 'stdout'.
+//! Read, over and over: the trace's length and the answer buffer's, two bytes each, low byte first; the trace; the buffer.
+//! Written for each: the result as 16 hexadecimal digits, and the buffer after the call.
+//! A read or a write that fails ends it with that error.
 #![tactic(auto)]
 
 use analog::packed;

@@ -131,19 +131,19 @@ refusal_back : (r : Result ⊤ Refusal) (refusal : Refusal) (m : ℕ) → Err re
 refusal_back (Ok all) refusal m e = cc
 refusal_back (Err other) refusal m e = cc
 
--- refused: by the first question that meets a no
+-- refused: by the first question that is answered with no
 pub found_refused : (trace : List ℕ) (refusal : Refusal) → Err refusal ≡ check_of trace → asked (field_questions trace) ≡ Err refusal
 unfolding check_of answered
 found_refused trace refusal found = refusal_back (asked (field_questions trace)) refusal (length (calls_of trace)) found
 
--- counted: there is no no, and these are the calls
+-- counted: no question is answered with no, and these are the calls
 pub found_calls : (trace : List ℕ) (n : ℕ) → Ok n ≡ check_of trace → (first_no (field_questions trace) ≡ 0) × (n ≡ length (calls_of trace))
 unfolding check_of answered
 found_calls trace n found =
     let back = value_back (asked (field_questions trace)) n (length (calls_of trace)) found in
     (ok_first (field_questions trace) back.0, back.1)
 
--- ---- a trace of which no question meets a no
+-- ---- a trace of which no question is answered with no
 
 all_met_lem : (a b d : Bool) → ◌≡◌ {A = ℕ} (cond a (cond b (cond d 0 26) 19) 18) 0 → (a ≡ true) × (b ≡ true) × (d ≡ true)
 all_met_lem true true true e = (refl, refl, refl)

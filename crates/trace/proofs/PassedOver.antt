@@ -136,7 +136,7 @@ module _ (trace : List ℕ) (none : first_no (field_questions trace) ≡ 0) wher
       omega
       (arith, length-append (take 8 trace) calls, length-append (take 8 trace) (bytes_of_fields fields), calls_shorter fields, ap length back, (walkable trace none).short)
 
-  -- no question meets a no
+  -- no question is answered with no
   without_met : all_met (field_questions (without_answers trace)) ≡ true
   unfolding all_met
   without_met =

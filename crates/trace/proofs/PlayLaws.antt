@@ -184,7 +184,7 @@ module _ (trace : List ℕ) (room : ℕ) where
       asked_last (leb (length trace) 16_777_216 && is_heading trace) (is_undamaged (later_fields trace)) (answers_follow (tag_of trace) (fields_after trace))
       (leb (5 * length (calls_of trace)) room)
 
--- so it is asked: the first no of the others, or its own
+-- so it is asked: the first of the others that is answered with no, or itself
 room_asked :
     (a b d room : Bool)
     → ◌≡◌ {A = Result ⊤ Refusal} (cond a (cond b (cond d (cond room (Ok record {}) (Err ShortBuffer)) (Err StrayAnswer)) (Err BadField)) (Err BadHeading))

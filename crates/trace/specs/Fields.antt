@@ -1,5 +1,5 @@
--- Document 01, "Traces": the fields of a trace.
-use Rattle.std.specs.Prelude.{ℕ, zero, suc, ◌+◌, ◌/◌, ◌%◌, Bool, true, false, cond, ◌&&◌, ◌||◌, List, [], ◌∷◌, ◌++◌, map, eqb, leb, length, get_or, take, drop}
+-- The fields of a trace (data sheet, "Traces").
+use Rattle.std.specs.Prelude.{ℕ, zero, suc, ◌+◌, ◌/◌, ◌%◌, Bool, true, false, if◌then◌else◌, ◌&&◌, ◌||◌, List, [], ◌∷◌, ◌++◌, map, ◌==◌, nat_le, length, get_or, take, drop}
 use Rattle.pmc330_model.specs.Calls.{Call}
 use Rattle.trace.specs.Grammar.{length_of, is_call_tag, is_answer_tag, number_at, call_of}
 
@@ -8,7 +8,7 @@ pub record Field : Type 0 where
   pub tag : ℕ
   pub body : List ℕ
 
--- its bytes: "one-byte tag, two-byte length, body; numbers low byte first"
+-- its bytes: the tag, the length of the body in two bytes, low byte first, and the body
 abbrev pub field_bytes : Field → List ℕ
 field_bytes field = field.tag ∷ length field.body % 256 ∷ length field.body / 256 ∷ field.body
 
@@ -35,9 +35,9 @@ after_field bytes = drop (3 + size_of bytes) bytes
 -- it is whole, with its tag's length
 unfoldable pub is_whole : List ℕ → Bool
 is_whole bytes =
-    leb 3 (length bytes) && eqb (size_of bytes) (length_of (tag_of bytes)) && leb (3 + size_of bytes) (length bytes)
+    nat_le 3 (length bytes) && size_of bytes == length_of (tag_of bytes) && nat_le (3 + size_of bytes) (length bytes)
 
--- "First 00H, length 5: the fixed bytes "A330", then the range." The heading is the first eight bytes of a trace.
+-- The heading is the first eight bytes of a trace: tag 00H, length 5, the fixed bytes A330, the range.
 abbrev pub fixed_bytes : List ℕ
 fixed_bytes = 0x41 ∷ 0x33 ∷ 0x33 ∷ 0x30 ∷ []
 
@@ -45,14 +45,14 @@ unfoldable pub same_bytes : List ℕ → List ℕ → Bool
 same_bytes [] [] = true
 same_bytes [] (y ∷ ys) = false
 same_bytes (x ∷ xs) [] = false
-same_bytes (x ∷ xs) (y ∷ ys) = eqb x y && same_bytes xs ys
+same_bytes (x ∷ xs) (y ∷ ys) = x == y && same_bytes xs ys
 
 abbrev pub range_of : (trace : List ℕ) → ℕ
 range_of trace = get_or trace 7 0
 
 unfoldable pub is_heading : (trace : List ℕ) → Bool
 is_heading trace =
-    is_whole trace && eqb (tag_of trace) 0x00 && same_bytes (take 4 (drop 3 trace)) fixed_bytes && leb (range_of trace) 3
+    is_whole trace && tag_of trace == 0x00 && same_bytes (take 4 (drop 3 trace)) fixed_bytes && nat_le (range_of trace) 3
 
 -- what the later fields are: a list of fields, or damaged
 pub data Fields : Type 0 where
@@ -63,7 +63,7 @@ abbrev pub in_front : Field → Fields → Fields
 in_front field damaged = damaged
 in_front field (whole fields) = whole (field ∷ fields)
 
--- "whole, with a call's tag and its length"; 02, A6: "19 admits 09H"
+-- a field after the heading is whole, with the tag of a call or of a recorded answer
 abbrev pub is_later_tag : (tag : ℕ) → Bool
 is_later_tag tag = is_call_tag tag || is_answer_tag tag
 
@@ -74,8 +74,8 @@ is_later_field bytes = is_whole bytes && is_later_tag (tag_of bytes)
 unfoldable pub fields_in : (turns : ℕ) → List ℕ → Fields
 fields_in zero bytes = damaged
 fields_in (suc turns) bytes =
-    cond (eqb (length bytes) 0) (whole [])
-    (cond (is_later_field bytes) (in_front (first_field bytes) (fields_in turns (after_field bytes))) damaged)
+    if length bytes == 0 then whole []
+    else (if is_later_field bytes then in_front (first_field bytes) (fields_in turns (after_field bytes)) else damaged)
 
 -- these turns are enough, by `WalkEnough` in Sentences
 unfoldable pub fields_of : List ℕ → Fields
@@ -100,11 +100,11 @@ fields_after trace = listed (later_fields trace)
 -- among fields, those that are calls, and those that are recorded answers, in order
 unfoldable pub call_fields : List Field → List Field
 call_fields [] = []
-call_fields (field ∷ fields) = cond (is_call_tag field.tag) (field ∷ call_fields fields) (call_fields fields)
+call_fields (field ∷ fields) = if is_call_tag field.tag then field ∷ call_fields fields else call_fields fields
 
 unfoldable pub answer_fields : List Field → List Field
 answer_fields [] = []
-answer_fields (field ∷ fields) = cond (is_answer_tag field.tag) (field ∷ answer_fields fields) (answer_fields fields)
+answer_fields (field ∷ fields) = if is_answer_tag field.tag then field ∷ answer_fields fields else answer_fields fields
 
 -- the calls of some fields, in order
 abbrev pub call_in : Field → Call

@@ -1,5 +1,5 @@
 -- How the code computes: what its private functions promise. Nothing that a caller may cite stands here.
-use Rattle.std.specs.Prelude.{ℕ, ◌+◌, ◌≤◌, Bool, true, cond, not, ◌&&◌, ◌||◌, List, [], ◌∷◌, ◌≡◌, length, Ok, Err}
+use Rattle.std.specs.Prelude.{ℕ, ◌+◌, ◌≤◌, Bool, true, if◌then◌else◌, not, ◌&&◌, ◌||◌, List, [], ◌∷◌, ◌≡◌, length, Ok, Err}
 use Rattle.analog.specs.Answers.{Answer, answered}
 use Rattle.analog.specs.declared.Refusal.TheVariants.{BadField, StrayAnswer}
 use Rattle.trace.specs.Grammar.{is_call_tag, is_answer_tag, call_of}
@@ -24,15 +24,15 @@ pub record StatesCall (tag : ℕ) (body : List ℕ) (call : Call) : Type 0 where
 unfoldable pub none_strays : (after_call : Bool) → List Field → Bool
 none_strays after_call [] = true
 none_strays after_call (field ∷ fields) =
-    cond (is_answer_tag field.tag) after_call true && none_strays (is_call_tag field.tag) fields
+    (if is_answer_tag field.tag then after_call else true) && none_strays (is_call_tag field.tag) fields
 
 -- the walk over the later fields, with so many calls before them, and whether an answer before them strayed
 abbrev pub walked : (calls : ℕ) (strays after_call : Bool) → Fields → Answer
 walked calls strays after_call damaged = Err BadField
 walked calls strays after_call (whole fields) =
-    cond (strays || not (none_strays after_call fields)) (Err StrayAnswer) (Ok (calls + length (calls_among fields)))
+    if strays || not (none_strays after_call fields) then Err StrayAnswer else Ok (calls + length (calls_among fields))
 
--- the check of a trace: the first question that meets a no, or how many calls it has
+-- the check of a trace: the first question that is answered with no, or how many calls it has
 unfoldable pub check_of : (trace : List ℕ) → Answer
 check_of trace = answered (field_questions trace) (length (calls_of trace))
 

@@ -1,5 +1,5 @@
--- Document 02, A6: a replay, "the first call whose answer is not equal to the recorded one, or .. all agree".
-use Rattle.std.specs.Prelude.{ℕ, zero, suc, ◌+◌, ◌*◌, ◌%◌, Bool, cond, ◌&&◌, List, [], ◌∷◌, eqb, get_or, Result, Ok, Err, ⊤}
+-- A replay: all recorded answers agree, or the first call whose answer is not the recorded one (data sheet, "Recordings and replays").
+use Rattle.std.specs.Prelude.{ℕ, zero, suc, ◌+◌, ◌*◌, ◌%◌, Bool, if◌then◌else◌, ◌&&◌, List, [], ◌∷◌, ◌==◌, get_or, Result, Ok, Err, ⊤}
 use Rattle.analog.specs.Answers.{number_of_refusal, asked, number_of, value_of, Answer}
 use Rattle.analog.specs.declared.Refusal.{Refusal}
 use Rattle.pmc330_model.specs.Board.{answers_of}
@@ -9,17 +9,17 @@ use Rattle.trace.specs.Play.{field_questions}
 use Rattle.trace.specs.declared.Replayed.{Replayed}
 use Rattle.trace.specs.declared.Replayed.TheVariants.{Agree, Differs}
 
--- "Field 09H (number 1, value 4)": what a body records
+-- what the body of a recorded answer holds: a number in one byte, a value in four
 abbrev pub recorded_number : (body : List ℕ) → ℕ
 recorded_number body = number_at 0 1 body
 
 abbrev pub recorded_value : (body : List ℕ) → ℕ
 recorded_value body = number_at 1 4 body
 
--- "Equal here means the same number and the same low 16 bits of value."
+-- equal means the same number and the same low 16 bits of value
 abbrev pub is_equal : Answer → (body : List ℕ) → Bool
 is_equal answer body =
-    eqb (number_of answer) (recorded_number body) && eqb (value_of answer % 65_536) (recorded_value body % 65_536)
+    number_of answer == recorded_number body && value_of answer % 65_536 == recorded_value body % 65_536
 
 -- a comparison: the index of a call, from 1, its answer, and what is recorded of it
 pub record Comparison : Type 0 where
@@ -37,21 +37,21 @@ answer_to answers (suc n) = get_or answers n (Ok 0)
 unfoldable pub comparisons_from : (index : ℕ) → List Answer → List Field → List Comparison
 comparisons_from index answers [] = []
 comparisons_from index answers (field ∷ fields) =
-    cond (is_call_tag field.tag) (comparisons_from (index + 1) answers fields)
-    (record { index = index; answer = answer_to answers index; body = field.body } ∷ comparisons_from index answers fields)
+    if is_call_tag field.tag then comparisons_from (index + 1) answers fields
+    else record { index = index; answer = answer_to answers index; body = field.body } ∷ comparisons_from index answers fields
 
--- the first that is not equal, with "the 09H fields up to and including that call's"; so many were equal before
+-- the first that is not equal, with the count of recorded answers up to and including its own; so many were equal before
 unfoldable pub first_difference : (count : ℕ) → List Comparison → Replayed
 first_difference count [] = Agree count
 first_difference count (next ∷ later) =
-    cond (is_equal next.answer next.body) (first_difference (count + 1) later) (Differs next.index (count + 1))
+    if is_equal next.answer next.body then first_difference (count + 1) later else Differs next.index (count + 1)
 
--- a finding where no question meets a no, else the first that does
+-- a finding where no question is answered with no, else the first that is
 abbrev pub unless_refused : Result ⊤ Refusal → Replayed → Result Replayed Refusal
 unless_refused (Ok all) found = Ok found
 unless_refused (Err refusal) found = Err refusal
 
--- "A replay runs the trace": on a new board of its range. It has no answer buffer, so no question 20
+-- a replay makes the calls on a new board of the trace's range. It has no answer buffer, so no question 20
 unfoldable pub replayed : (trace : List ℕ) → Result Replayed Refusal
 replayed trace =
     unless_refused (asked (field_questions trace))

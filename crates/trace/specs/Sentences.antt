@@ -1,7 +1,7 @@
 -- The sentences of the data sheet on traces. They are proved in proofs/Sentences.antt (`traces_refused`, `traces_accepted`,
 -- `plays_packed`, `walks_enough`), proofs/PassedOver.antt (`answers_passed_over`) and proofs/Replays.antt (`replays_refused`, `replays_answered`,
 -- `replays_packed`).
-use Rattle.std.specs.Prelude.{ℕ, ◌+◌, ◌*◌, ◌/◌, ◌%◌, ◌<◌, Bool, true, false, cond, List, [], ◌∷◌, ◌++◌, ◌⊎◌, ◌≡◌, eqb, length, take, Ok, Err}
+use Rattle.std.specs.Prelude.{ℕ, ◌+◌, ◌*◌, ◌/◌, ◌%◌, ◌<◌, Bool, true, false, if◌then◌else◌, List, [], ◌∷◌, ◌++◌, ◌⊎◌, ◌≡◌, ◌==◌, length, take, Ok, Err}
 use Rattle.analog.specs.Answers.{number_of_refusal, first_no, all_met, asked, packed}
 use Rattle.analog.specs.declared.Refusal.{Refusal}
 use Rattle.pmc330_model.specs.Logbook.{logbook_of, logbook_answers, logged_answer}
@@ -11,8 +11,8 @@ use Rattle.trace.specs.Play.{field_questions, trace_questions, in_buffer, played
 use Rattle.trace.specs.Replay.{is_equal, replayed, replay_number, replay_index, replay_count, replay_result}
 use Rattle.trace.specs.declared.Replayed.TheVariants.{Agree, Differs}
 
--- Sentence 1, of a trace: where 18, 19, 26 or 20 meets a no, the result is the number of the first no, with no call answered,
--- and it "leaves the answer buffer unchanged"
+-- Sentence 1, of a trace: where 18, 19, 26 or 20 is answered with no, the result is the number of the first that is, with no call
+-- answered, and the answer buffer stays as it was
 pub record RefusedTrace (trace buffer : List ℕ) : Type 0 where
   pub result : played_result trace (length buffer) ≡ first_no (trace_questions trace (length buffer))
   pub unchanged : played_buffer trace buffer ≡ buffer
@@ -44,7 +44,7 @@ pub record WalkEnough (bytes : List ℕ) : Type 0 where
 abbrev pub EveryWalk : Type 0
 EveryWalk = (bytes : List ℕ) → WalkEnough bytes
 
--- 02, A6: "The player passes over it." Where 18, 19 and 26 are met, the trace is its heading and the bytes of its fields;
+-- The player passes over recorded answers. Where 18, 19 and 26 are met, the trace is its heading and the bytes of its fields;
 -- the trace without its recorded answers has its calls and no other field, and meets these questions too; and the player makes
 -- the same of both
 pub record PassedOver (trace buffer : List ℕ) : Type 0 where
@@ -57,11 +57,11 @@ pub record PassedOver (trace buffer : List ℕ) : Type 0 where
 abbrev pub EveryPassedOver : Type 0
 EveryPassedOver = (trace buffer : List ℕ) → all_met (field_questions trace) ≡ true → PassedOver trace buffer
 
--- The player's answer and its result as one number say the same: "256 × calls answered + number"
+-- The player's answer and its result as one number say the same: 256 × calls answered + number
 abbrev pub EveryPackedPlay : Type 0
 EveryPackedPlay = (trace : List ℕ) (room : ℕ) → packed (played trace room) ≡ played_result trace room
 
--- 02, A6, a replay: where 18, 19 or 26 meets a no, it is refused by the first that does, with its number
+-- A replay: where 18, 19 or 26 is answered with no, it is refused by the first that is, with its number
 pub record RefusedReplay (trace : List ℕ) : Type 0 where
   pub refusal : Refusal
   pub first : asked (field_questions trace) ≡ Err refusal
@@ -81,7 +81,7 @@ pub record RecordedCall (fields : List Field) : Type 0 where
   pub call_tag : is_call_tag call.tag ≡ true
   pub answer_tag : is_answer_tag answer.tag ≡ true
 
--- "the index (from 1)" of the call, and "the 09H fields up to and including that call's"
+-- the index of the call, from 1, and the count of recorded answers up to and including its own
 abbrev pub index_of : {fields : List Field} → RecordedCall fields → ℕ
 index_of recorded = length (calls_among recorded.before) + 1
 
@@ -93,7 +93,7 @@ abbrev pub is_as_recorded : (range : ℕ) → {fields : List Field} → Recorded
 is_as_recorded range recorded =
     is_equal (logged_answer (logbook_of range (calls_among recorded.before)) (call_in recorded.call)) recorded.answer.body
 
--- "all agree", or there is a "first call whose answer is not equal to the recorded one": those before it are equal
+-- all agree, or there is a first call whose answer is not equal to the recorded one: those before it are equal
 abbrev pub AllAgree : (range : ℕ) → List Field → Type 0
 AllAgree range fields = (recorded : RecordedCall fields) → is_as_recorded range recorded ≡ true
 
@@ -102,8 +102,8 @@ pub record FirstDiffers (range : ℕ) (fields : List Field) : Type 0 where
   pub unequal : is_as_recorded range recorded ≡ false
   pub equal_before : (earlier : RecordedCall fields) → index_of earlier < index_of recorded → is_as_recorded range earlier ≡ true
 
--- otherwise one of the two holds, and the replay says which: with the count of all 09H fields, or with that call's index and
--- the count up to and including its
+-- otherwise one of the two holds, and the replay says which: with the count of all recorded answers, or with that call's index and
+-- the count up to and including its own
 pub record AnsweredReplay (trace : List ℕ) : Type 0 where
   pub either : AllAgree (range_of trace) (fields_after trace) ⊎ FirstDiffers (range_of trace) (fields_after trace)
   pub agree :
@@ -116,7 +116,7 @@ abbrev pub EveryReplay : Type 0
 EveryReplay = (trace : List ℕ) → all_met (field_questions trace) ≡ true → AnsweredReplay trace
 
 -- number, index and count can be read back from the one number that C gets, and say which case it is: refused where the number
--- is not 0, by the one refusal that has it; else "index 0 where all agree"
+-- is not 0, by the one refusal that has it; else all agree where the index is 0
 pub record PackedReplay (trace : List ℕ) : Type 0 where
   pub number : replay_result (replayed trace) % 256 ≡ replay_number (replayed trace)
   pub index : replay_result (replayed trace) / 256 % 16_777_216 ≡ replay_index (replayed trace)
@@ -126,7 +126,9 @@ pub record PackedReplay (trace : List ℕ) : Type 0 where
   pub found :
       replay_number (replayed trace) ≡ 0
       → replayed trace
-      ≡ Ok (cond (eqb (replay_index (replayed trace)) 0) (Agree (replay_count (replayed trace))) (Differs (replay_index (replayed trace)) (replay_count (replayed trace))))
+      ≡ Ok (if replay_index (replayed trace) == 0
+      then Agree (replay_count (replayed trace))
+      else Differs (replay_index (replayed trace)) (replay_count (replayed trace)))
 
 abbrev pub EveryPackedReplay : Type 0
 EveryPackedReplay = (trace : List ℕ) → PackedReplay trace

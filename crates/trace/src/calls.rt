@@ -1,4 +1,4 @@
-// A call made on a board, and its answer. Of the board only the promises of its calls are known here.
+//! A call made on a board, and its answer. Of the board only the promises of its calls are known here.
 ghost use Rattle.std.specs.Prelude.{◌≡◌, ◌≤◌, ◌++◌, length, drop};
 ghost use Rattle.analog.specs.Answers.{number_of};
 ghost use Rattle.pmc330_model.specs.Board.{board_call};

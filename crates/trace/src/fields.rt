@@ -1,4 +1,4 @@
-// The fields of a trace: the heading, and the check of them all.
+//! The fields of a trace: the heading, and the check of them all.
 ghost use Rattle.std.specs.Prelude.{◌≡◌, ◌+◌, ◌≤◌, length, drop, false, Err, MatchOption, MatchResult};
 ghost use Rattle.analog.specs.Answers.{first_no, asked};
 ghost use Rattle.pmc330_model.specs.Board.{new_board};
@@ -139,8 +139,8 @@ fn split(bytes: &[u8]) -> Option<(Field<'_>, &[u8])>
     if size != tag.length() || rest.len() < size {
         return None;
     }
-    // This form of a body is one that the project asks for. The bytes after it are taken from `rest`: with `&bytes[3 + size..]` the
-    // walk would wait longer for the next field (tried: a clear takes 1.2 of the time).
+    // The bytes after the body are taken from `rest`: with `&bytes[3 + size..]` the walk would wait longer for the next field
+    // (tried: a clear takes 1.2 of the time).
     let field = Field {
         tag,
         body: &bytes[3..3 + size],
@@ -181,8 +181,7 @@ impl<'a> Iterator for LaterFields<'a> {
     }
 }
 
-// Whether the trace begins with the heading. No slice pattern: comparing it with a fixed byte string is a form that the project
-// asks for.
+// Whether the trace begins with the heading.
 fn is_heading(trace: &[u8]) -> bool
     ensures { result ≡ is_heading trace.now }
 {
@@ -225,7 +224,7 @@ fn check(trace: &[u8]) -> Result<usize, Refusal>
     check_later(trace)
 }
 
-// A checked trace, of which no question but that of room can meet a no.
+// A trace that passed the checks of its fields; only a short answer buffer can still refuse it.
 #[derive(Clone, Copy)]
 pub(crate) struct Checked<'a> {
     trace: &'a [u8],

@@ -1,4 +1,4 @@
-// The trace player: a trace's calls, made on a new board, and their answers in the lent buffer, or compared with recorded ones.
+//! The trace player: a trace's calls, made on a new board, and their answers in the lent buffer, or compared with recorded ones.
 #![tactic(auto)]
 
 mod calls;
@@ -14,14 +14,16 @@ ghost use Rattle.trace.specs.Replay.{comparisons_from, first_difference, replaye
 use crate::fields::Checked;
 use analog::Refusal;
 
-// The longest trace that is taken.
+/// The longest trace that is taken, in bytes.
 pub const LONGEST: usize = 16_777_216;
 
-// What a replay of a trace finds: how many recorded answers were compared, and of the first call whose answer is not the
-// recorded one the index; that one is counted too.
+/// What a replay of a trace finds. Answers agree in number and in the low 16 bits of value.
 #[derive(Clone, Copy, Debug, PartialEq, Eq)]
 pub enum Replayed {
+    /// All recorded answers are those of their calls: how many there are.
     Agree(u32),
+    /// The first call whose answer is not the recorded one: its index among all calls, from 1, and the count of recorded answers
+    /// up to and including its own.
     Differs { index: u32, count: u32 },
 }
 
@@ -36,7 +38,6 @@ fn play_calls(trace: Checked, answers: &mut [u8])
     for field in trace.fields() {
         if let Some(call) = field.call() {
             let answer = call.made_on(&mut board);
-            // this form of a tail part is one that the project asks for
             calls::put(&mut answers[done..], answer);
             done += 5;
         }
@@ -66,7 +67,9 @@ fn replay_calls(trace: Checked) -> Replayed
     Replayed::Agree(count)
 }
 
-// Plays a trace: how many calls are answered.
+/// Plays a trace on a new board of its heading's range: how many calls are answered. Each answer is put into `answers`, five
+/// bytes one after the other: its number, and its value low byte first; bytes past the last stay. A call that is refused has its
+/// answer too, and the calls after it are made. Refused with 18, 19, 26 or 20, `answers` stays.
 pub fn play(trace: &[u8], answers: &mut [u8]) -> Result<u32, Refusal>
     ensures result { result ≡ played trace.now (length answers.old) }
     ensures buffer { answers.new ≡ played_buffer trace.now answers.old }
@@ -79,7 +82,8 @@ pub fn play(trace: &[u8], answers: &mut [u8]) -> Result<u32, Refusal>
     Ok(checked.calls as u32)
 }
 
-// Replays a recording: the first call whose answer is not the recorded one.
+/// Replays a recording on a new board of its heading's range: the first call whose answer is not the recorded one, or that all
+/// agree. Refused with 18, 19 or 26.
 pub fn replay(trace: &[u8]) -> Result<Replayed, Refusal>
     ensures { result ≡ replayed trace.now }
 {

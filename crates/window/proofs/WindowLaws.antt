@@ -229,7 +229,7 @@ past_sums n codes k output h =
     ∙ get_or-drop k output 0 0
     ∙ ap (λ (i : ℕ). get_or output i 0) (add-zero k)
 
--- "N, or the codes so far where these are fewer" is how many codes the window has
+-- the window has N codes, or the codes so far where these are fewer
 pub held_is : (n : ℕ) (codes : List ℕ) (count : ℕ) → count ≤ length codes → length (window_after n codes count) ≡ held_after n count
 held_is n codes count h =
     ap length (window_is n codes count h)

@@ -1,4 +1,4 @@
-// The running average's window: after each code of a run, the sum of the last ones.
+//! The running average's window: after each code of a run, the sum of the last ones.
 #![tactic(auto)]
 
 pub mod theorems;
@@ -54,8 +54,9 @@ fn slide(full: usize, filled: u32, codes: &[u16], sums: &mut [u32])
     }
 }
 
-// After each code the sum of the last `length` ones, or of all so far where these are fewer, put at the code's place.
-// Accepted with how many codes the last sum holds; refused with 21 or 20, `sums` stays.
+/// After each straight code the sum of the last `length` ones, or of all so far where these are fewer, put at the code's place.
+/// `length` is 8, 16 or 32, and a sum at most 2,097,120. Gives how many codes the last sum holds, 0 for an empty run; places
+/// past the run stay. Refused with 21 or 20, `sums` stays.
 #[tactic(auto, unfolding(crate::specs::Window::window_answer, crate::specs::Window::window_output, analog::specs::Answers::answered, analog::specs::Answers::asked, analog::specs::Answers::all_met))]
 pub fn window_sums(length: u32, codes: &[u16], sums: &mut [u32]) -> Answer
     ensures answer { result ≡ window_answer length codes.now sums.old }
