@@ -1,0 +1,10 @@
+pub mod Jumps
+pub mod Runs
+pub mod Maps
+pub mod Spans
+pub mod Places
+pub mod Schedule
+pub mod Standing
+pub mod Conversions
+pub mod Times
+pub mod Sentences
