@@ -242,7 +242,8 @@ pub fn request_line(words: &[u32; 17]) -> bool
     core.registers.enable && core.pending
 }
 
-/// The ticks to the next store if only time passes; none if no store is to come. The arrays do not matter.
+/// The ticks to the next store if only time passes; none if the longest advance makes none, and so, after any list of calls, if no
+/// store is to come. The arrays do not matter.
 #[tactic(auto, using(pmc330_model::proofs::NextStores::next_is))]
 pub fn next_store(words: &[u32; 17]) -> Option<u32>
     ensures { (inputs : List ℤ) (gains codes unread : List ℕ) → result ≡ if_any (next_store (board_in words.now inputs gains codes unread)) }

@@ -115,7 +115,8 @@ pub fn request_line(b: Board) -> bool
     Parts::from(b).request_line()
 }
 
-/// The ticks to the next store if only time passes; none if no store is to come.
+/// The ticks to the next store if only time passes; none if the longest advance makes none, and so, after any list of calls, if no
+/// store is to come.
 pub fn next_store(b: Board) -> Option<u32>
     ensures { result ≡ if_any (next_store b) }
 {

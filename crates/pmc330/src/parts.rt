@@ -214,7 +214,8 @@ impl Parts {
         lent::request_line(&self.words)
     }
 
-    /// The ticks to the next store if only time passes; none if no store is to come.
+    /// The ticks to the next store if only time passes; none if the longest advance makes none, and so, after any list of calls,
+    /// if no store is to come.
     pub fn next_store(&self) -> Option<u32>
         ensures { result ≡ if_any (next_store self.now) }
     {

@@ -144,7 +144,8 @@ pub extern "C" fn pmc330_parts_line(words: &[u32; 17]) -> u32
     u32::from(lent::request_line(words))
 }
 
-/// The ticks to the next store if only time passes, 0 if none is to come: C has no Option. The arrays do not matter.
+/// The ticks to the next store if only time passes; 0, since C has no Option, if the longest advance makes none, and so, after any
+/// list of calls, if no store is to come. The arrays do not matter.
 #[unsafe(no_mangle)]
 pub extern "C" fn pmc330_parts_next_store(words: &[u32; 17]) -> u32
     ensures { (inputs : List ℤ) (gains codes unread : List ℕ) → result ≡ next_store (board_in words.now inputs gains codes unread) }

@@ -1,8 +1,10 @@
 -- When a cycle begins and ends, but for the ticks of an advance and for triggers in external trigger only.
 use mathlib.Core.Bool.{Bool, true, false, cond, ◌&&◌}
 use mathlib.Core.List.{List, [], ◌∷◌, ◌++◌}
-use mathlib.Core.Path.{◌≡◌, refl, sym, ap, ◌∙◌}
+use mathlib.Core.Path.{◌≡◌, refl, sym, ap, subst, ◌∙◌}
 use Prim.Native.Nat.{ℕ}
+use lib.IntN.{ℤ}
+use lib.ListN.{set}
 use native.Mathlib.Omega.{arith}
 use lib.Dec.{eqb}
 use borrow.Author.Tests.{eq-eqb, ne_eqb}
@@ -12,12 +14,12 @@ use Rattle.analog.proofs.AnswerLaws.{none_first, some_first}
 use Rattle.pmc330_model.specs.Map.{if_mailbox, class_of, trigger_field}
 use Rattle.pmc330_model.specs.declared.Register.{Register}
 use Rattle.pmc330_model.specs.declared.Register.TheVariants.{Interrupt, Control, StartConvert}
-use Rattle.pmc330_model.specs.Words.{bit_of, with_word, is_release, is_stop, is_start}
+use Rattle.pmc330_model.specs.Words.{bit_of, with_word, gains_with, is_release, is_stop, is_start}
 use Rattle.pmc330_model.specs.Schedule.{is_burst, is_timed, is_trigger_only, channel_of, code_at}
-use Rattle.pmc330_model.specs.Calls.{Call, read, write, advance, trigger, reset}
+use Rattle.pmc330_model.specs.Calls.{Call, read, write, input, advance, trigger, reset}
 use Rattle.pmc330_model.specs.Questions.{call_questions, resulting_word, has_channels, has_interval}
-use Rattle.pmc330_model.specs.Logbook.{Event, Running, idle, since, cycle_start, release, was_read, Logbook, stores_since, with_happened, starts, triggered_in, trigger_comes, read_event, writes, happens, is_idle, logbook_questions, logged}
-use Rattle.pmc330_model.specs.Sentences.{starts_cycle, stops_or_resets, events_of, may_store}
+use Rattle.pmc330_model.specs.Logbook.{Event, Running, idle, since, was_reset, cycle_start, release, was_read, Logbook, stores_since, with_happened, starts, triggered_in, trigger_comes, read_event, writes, happens, is_idle, logbook_questions, logged}
+use Rattle.pmc330_model.specs.Sentences.{starts_cycle, stops_or_resets, events_of, cleared_logbook, may_store}
 use Rattle.pmc330_model.proofs.Triggers.{timed_not_only}
 
 -- ---- a call, accepted or refused
@@ -195,3 +197,63 @@ pub events :
     (l : Logbook) (call : Call) → all_met (logbook_questions l call) ≡ true → may_store l.registers call ≡ false
     → (logged l call).events ≡ (events_of l call ++ l.events)
 events l call met none = ap (λ (after : Logbook). after.events) (accepted_is l call met) ∙ happens_events l call none
+
+-- ---- a whole logbook after a call that makes no store and starts no cycle
+
+pub reads :
+    (l : Logbook) (width offset : ℕ) → all_met (logbook_questions l (read width offset)) ≡ true
+    → logged l (read width offset) ≡ record l { events = events_of l (read width offset) ++ l.events }
+unfolding happens
+reads l width offset met =
+    accepted_is l (read width offset) met ∙ ap (λ (events : List Event). record l { events = events }) (read_events (class_of offset) l.events)
+
+pub inputs :
+    (l : Logbook) (channel : ℕ) (microvolts : ℤ) → all_met (logbook_questions l (input channel microvolts)) ≡ true
+    → logged l (input channel microvolts) ≡ record l { inputs = set l.inputs channel microvolts }
+unfolding happens
+inputs l channel microvolts met = accepted_is l (input channel microvolts) met
+
+written_is :
+    (l : Logbook) (register : Register) (word : ℕ) → is_start register word ≡ false
+    → writes register word l
+    ≡ record l {
+      registers = with_word register word l.registers;
+      gains = gains_with register word l.gains;
+      cycle = cond (is_stop register word) idle l.cycle;
+      events = cond (is_start register word) (cycle_start ∷ []) (cond (is_release register word) (release ∷ []) []) ++ l.events;
+    }
+unfolding writes
+written_is l register word e = rw e (go (is_release register word))
+  where
+    after : List Event → Logbook
+    after events =
+        record l {
+          registers = with_word register word l.registers;
+          gains = gains_with register word l.gains;
+          cycle = cond (is_stop register word) idle l.cycle;
+          events = events;
+        }
+
+    go : (is : Bool) → after (cond is (release ∷ l.events) l.events) ≡ after (cond is (release ∷ []) [] ++ l.events)
+    go true = refl
+    go false = refl
+
+pub writes_is :
+    (l : Logbook) (width offset value : ℕ) → all_met (logbook_questions l (write width offset value)) ≡ true
+    → starts_cycle l (write width offset value) ≡ false
+    → logged l (write width offset value)
+    ≡ record l {
+      registers = with_word (class_of offset) (resulting_word l.registers l.gains width offset value) l.registers;
+      gains = gains_with (class_of offset) (resulting_word l.registers l.gains width offset value) l.gains;
+      cycle = cond (stops_or_resets l (write width offset value)) idle l.cycle;
+      events = events_of l (write width offset value) ++ l.events;
+    }
+unfolding happens
+writes_is l width offset value met none =
+    let word : ℕ = resulting_word l.registers l.gains width offset value in
+    let unstarted : is_start (class_of offset) word ≡ false = subst (λ (t : Bool). (t && is_start (class_of offset) word) ≡ false) met none in
+    accepted_is l (write width offset value) met ∙ rw met (written_is l (class_of offset) word unstarted)
+
+pub resets : (l : Logbook) → logged l reset ≡ cleared_logbook l.range l.inputs (was_reset ∷ l.events)
+unfolding happens all_met call_questions
+resets l = accepted_is l reset refl

@@ -21,7 +21,7 @@ use Rattle.pmc330_model.specs.Logbook.{Event, Running, idle, since, release, was
 use Rattle.pmc330_model.specs.Sentences.{last_conversion, InCycle, may_store, stores_among, Scheduled, is_timeless, EveryTick}
 use Rattle.pmc330_model.specs.declared.Registers.{Registers}
 use Rattle.pmc330_model.proofs.Agreement.{Startable}
-use Rattle.pmc330_model.proofs.Cycles.{accepted_is, refused_is, cycle_starts, bits_clear, cycle_ends, no_start, cycle_stays, events}
+use Rattle.pmc330_model.proofs.Cycles.{accepted_is, refused_is, cycle_starts, bits_clear, cycle_ends, no_start, cycle_stays, events, reads, inputs, writes_is, resets}
 use Rattle.pmc330_model.proofs.Due.{due_found, due_none, unscheduled_later, scheduled_next}
 use Rattle.pmc330_model.proofs.QuestionLaws.{running_unstarted}
 use Rattle.pmc330_model.proofs.Schedule.{before, search_none}
@@ -516,6 +516,10 @@ scheduled l startable =
       no_start = no_start l;
       cycle_stays = cycle_stays l;
       events = events l;
+      reads = reads l;
+      inputs = inputs l;
+      writes = writes_is l;
+      resets = resets l;
       started = λ call T triggers e f. subst (StartedAt l.tick (triggers_at_first l call)) f (started_there l call e);
       kept = λ call T later triggers more e f. subst (RunsSince T) f (kept_since l call T triggers e);
       timed = λ T triggers running timed. in_cycle l T triggers running timed (startable T triggers running);

@@ -14,7 +14,7 @@ use Rattle.pmc330_model.specs.Calls.{Call}
 use Rattle.pmc330_model.specs.Board.{new_board, ticked, advanced, is_store_due, stores_in, questions_of, after_call, value_of_call, board_call, advance_call, board_from, answers_from, board_after}
 use Rattle.pmc330_model.specs.Logbook.{since, Logbook, was_reset, idle, stores_since, new_logbook, logged, logged_answer, logged_from, logged_answers_from, logbook_of}
 use Rattle.pmc330_model.specs.Questions.{call_questions}
-use Rattle.pmc330_model.specs.Sentences.{Sentence1, ReadsBit, Sentence3, EveryCall1, AfterList1, EveryList1, EveryNew1, EveryAnswer, EveryList3, EverySchedule, EveryStart, EveryTick, EveryPair, EveryAdvances, board_after_advances, value_of_advances}
+use Rattle.pmc330_model.specs.Sentences.{Sentence1, ReadsBit, Sentence3, EveryCall1, AfterList1, EveryList1, EveryNew1, EveryAnswer, EveryList3, EveryOpening, EverySchedule, EveryStart, EveryTick, EveryPair, EveryAdvances, board_after_advances, value_of_advances}
 use Rattle.pmc330_model.specs.declared.Board.{Board}
 use Rattle.pmc330_model.proofs.Agreement.{Startable, Related}
 use Rattle.pmc330_model.proofs.Cycles.{bits_clear}
@@ -114,6 +114,10 @@ starts_clear range valid calls call start slot inside =
           subst (λ (count : ℕ). ReadsBit (board_call board call).board (0x1c + 4 * (slot / 16)) (slot % 16) (leb 2 count)) none
           (shown.missed_data slot inside);
     }
+
+pub opened_empty : EveryOpening
+unfolding logged_from
+opened_empty range = refl
 
 pub ticks_counted : EveryTick
 ticks_counted = ticks_counted_lem

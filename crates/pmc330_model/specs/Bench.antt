@@ -378,6 +378,30 @@ unarmed_trigger =
     ∷ look 0 gives 0x3c000
     ∷ []
 
+-- A code is taken when its conversion begins: a change of the input after that, a read and a release move nothing
+abbrev pub code_in_flight : List Step
+code_in_flight =
+    input 0 (pos 5_000_000) gives 0
+    ∷ registers 0x0401 0x0000
+    ++ start gives 0
+    ∷ input 0 (pos 0) gives 0
+    ∷ read 16 0x04 gives 0x0401
+    ∷ write 16 0x00 0x8000 gives 0
+    ∷ advance 64 gives 1
+    ∷ read 16 0x80 gives 0xc000
+    ∷ []
+
+-- a reset forgets the code last taken: the unarmed trigger after it stores 0
+abbrev pub code_forgotten : List Step
+code_forgotten =
+    input 0 (pos 5_000_000) gives 0
+    ∷ converts 0x0401 0xc000
+    ++ reset gives 0
+    ∷ registers 0x050b 0x0000
+    ++ trigger gives 0
+    ∷ look 0 gives 0x10000
+    ∷ []
+
 -- a reset restores a new board, but keeps range and inputs: 5 V × 8 is above the range, and 5 V is C000H
 abbrev pub resets : List Step
 resets =
@@ -557,6 +581,8 @@ cases =
     ∷ answers (timer_disabled 0x0209)
     ∷ answers external_triggers
     ∷ answers unarmed_trigger
+    ∷ answers code_in_flight
+    ∷ answers code_forgotten
     ∷ answers resets
     -- mailboxes
     ∷ answers mailbox_reads

@@ -23,7 +23,7 @@ idle_cycle = record { running = false; lead = 0; lag = 0; waiting = false; slot 
 abbrev pub with_cycle : Board → Cycle → Board
 with_cycle b c = record b { cycle = c }
 
--- a new board is idle, with no store to come and all registers, bits, codes and inputs 0
+-- a board that is idle, with no store to come and all registers, bits and codes 0; a new board's inputs are 0, and a reset keeps them
 abbrev pub cleared_board : (range : ℕ) → (inputs : List ℤ) → Board
 cleared_board range inputs =
     record {

@@ -1,13 +1,13 @@
 -- The sentences of the data sheet; how long a channel waits is in Waiting.antt. Each `Every..` is proved in proofs/Sentences.antt, those
 -- of the next store in proofs/NextStores.antt, those of looks and clears in proofs/Looks.antt.
-use Rattle.std.specs.Prelude.{ℕ, suc, ◌+◌, ◌-◌, ◌*◌, ◌/◌, ◌%◌, ◌≤◌, ◌<◌, Bool, true, false, not, ◌&&◌, List, [], ◌∷◌, ◌++◌, ◌≡◌, length, Ok, Err, if◌then◌else◌, ◌==◌, nat_le}
+use Rattle.std.specs.Prelude.{ℕ, suc, ◌+◌, ◌-◌, ◌*◌, ◌/◌, ◌%◌, ◌≤◌, ◌<◌, Bool, true, false, not, ◌&&◌, List, [], ◌∷◌, ◌++◌, ◌≡◌, length, set, replicate, ℤ, pos, Ok, Err, if◌then◌else◌, ◌==◌, nat_le}
 use Rattle.analog.specs.Answers.{Question, all_met, value_of, is_accepted}
 use Rattle.analog.specs.Sentences.{AnsweredBy}
 use Rattle.analog.specs.Sums.{sum_of}
 use Rattle.pmc330_model.specs.Map.{if_mailbox, class_of, trigger_field}
-use Rattle.pmc330_model.specs.Words.{bit_of, read_bytes, is_release, is_stop, is_start}
+use Rattle.pmc330_model.specs.Words.{bit_of, read_bytes, with_word, gains_with, is_release, is_stop, is_start}
 use Rattle.pmc330_model.specs.Schedule.{pass_length, is_burst, is_single, is_timed, is_trigger_only, channel_of, slot_of, ends_pass, code_at, begins_at, is_scheduled, conversion}
-use Rattle.pmc330_model.specs.Calls.{Call, read, write, advance, trigger, reset, look, clear}
+use Rattle.pmc330_model.specs.Calls.{Call, read, write, input, advance, trigger, reset, look, clear}
 use Rattle.pmc330_model.specs.Questions.{call_questions, resulting_word, has_channels, has_interval}
 use Rattle.pmc330_model.specs.Board.{board_call, new_call, new_board, read_call, advance_call, look_call, clear_call, view_of, request_line, next_store, board_after, answers_of}
 use Rattle.pmc330_model.specs.Logbook.{Event, was_reset, cycle_start, release, was_read, store, store_at, idle, since, is_idle, Logbook, last_store, stores_since, interrupted, with_happened, due_after, tick_passes, ticks_pass, logbook_questions, logged, logbook_of, logbook_answers}
@@ -172,6 +172,20 @@ events_of l reset = was_reset ∷ []
 events_of l (clear slot) = was_read slot ∷ []
 events_of l _ = []
 
+-- no cycle runs, and tick, registers, gains and the code last taken are 0
+abbrev pub cleared_logbook : (range : ℕ) (inputs : List ℤ) (events : List Event) → Logbook
+cleared_logbook range inputs events =
+    record {
+      range = range;
+      registers = record { enable = false; control = 0; prescaler = 0; timer = 0; start = 0; end = 0 };
+      gains = replicate 32 0;
+      inputs = inputs;
+      tick = 0;
+      taken = 0;
+      cycle = idle;
+      events = events;
+    }
+
 -- Of a logbook: when a cycle begins and ends. It has its T from the call that begins it and keeps it, and a timed one is as above
 pub record Scheduled (l : Logbook) : Type 0 where
   -- A start: the cycle runs since this tick, no trigger is taken in it, and the cycle start is the one event. A burst takes
@@ -197,6 +211,25 @@ pub record Scheduled (l : Logbook) : Type 0 where
   pub events :
       (call : Call) → all_met (logbook_questions l call) ≡ true → may_store l.registers call ≡ false
       → (logged l call).events ≡ (events_of l call ++ l.events)
+  -- a read moves nothing but them, an input its channel's voltage alone, and a write that starts no cycle what its register holds
+  pub reads :
+      (width offset : ℕ) → all_met (logbook_questions l (read width offset)) ≡ true
+      → logged l (read width offset) ≡ record l { events = events_of l (read width offset) ++ l.events }
+  pub inputs :
+      (channel : ℕ) (microvolts : ℤ) → all_met (logbook_questions l (input channel microvolts)) ≡ true
+      → logged l (input channel microvolts) ≡ record l { inputs = set l.inputs channel microvolts }
+  pub writes :
+      (width offset value : ℕ) → all_met (logbook_questions l (write width offset value)) ≡ true
+      → starts_cycle l (write width offset value) ≡ false
+      → logged l (write width offset value)
+      ≡ record l {
+        registers = with_word (class_of offset) (resulting_word l.registers l.gains width offset value) l.registers;
+        gains = gains_with (class_of offset) (resulting_word l.registers l.gains width offset value) l.gains;
+        cycle = if stops_or_resets l (write width offset value) then idle else l.cycle;
+        events = events_of l (write width offset value) ++ l.events;
+      }
+  -- a reset keeps range and inputs, and the earlier events; all else is 0 again, the code last taken among it
+  pub resets : logged l reset ≡ cleared_logbook l.range l.inputs (was_reset ∷ l.events)
   -- a cycle begins with no trigger taken, or in external trigger only with the one that begins it. An advance begins none
   pub started :
       (call : Call) (T : ℕ) (triggers : List ℕ) → l.cycle ≡ idle → (logged l call).cycle ≡ since T triggers
@@ -226,8 +259,8 @@ pub record Scheduled (l : Logbook) : Type 0 where
       (since T (l.tick ∷ last ∷ earlier))
       (store (store_at l.registers l.tick l.taken (slot_of l.registers (length earlier)) (ends_pass l.registers (length earlier)))
       ∷ l.events)
-  -- a trigger before arming, if question 9 is met: it stores the code last taken in the Start Channel's slot and takes conversion 0. The
-  -- store ends no pass and is the only event: there is no cycle start
+  -- a trigger before arming, if question 9 is met: it stores the code last taken since reset, 0 if none, formatted, in the Start
+  -- Channel's slot and takes conversion 0. The store ends no pass and is the only event: there is no cycle start
   pub unarmed :
       l.cycle ≡ idle → is_trigger_only l.registers ≡ true → trigger_field l.registers.control ≡ 1
       → has_channels l.registers ≡ true
@@ -244,6 +277,10 @@ pub record Scheduled (l : Logbook) : Type 0 where
       → logged l trigger ≡ l
   -- no other call makes a store but an advance
   pub other_calls : (call : Call) → may_store l.registers call ≡ false → stores_among (logged l call).events ≡ stores_among l.events
+
+-- the logbook of no calls: a new board's
+abbrev pub EveryOpening : Type 0
+EveryOpening = (range : ℕ) → logbook_of range [] ≡ cleared_logbook range (replicate 32 (pos 0)) (was_reset ∷ [])
 
 abbrev pub EverySchedule : Type 0
 EverySchedule = (range : ℕ) → range < 4 → (calls : List Call) → Scheduled (logbook_of range calls)

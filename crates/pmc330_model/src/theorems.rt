@@ -2,7 +2,7 @@
 //! functions and cannot be lost.
 #![tactic(auto)]
 
-ghost use Rattle.pmc330_model.specs.Sentences.{EveryCall1, EveryList1, EveryNew1, EveryAnswer, EveryList3, EverySchedule, EveryStart, EveryTick, EveryPair, EveryAdvances, EveryNextStore, EveryLastStore, EveryLook, EveryLookShown, EverySlotLogged, EveryMailboxRead};
+ghost use Rattle.pmc330_model.specs.Sentences.{EveryCall1, EveryList1, EveryNew1, EveryAnswer, EveryList3, EveryOpening, EverySchedule, EveryStart, EveryTick, EveryPair, EveryAdvances, EveryNextStore, EveryLastStore, EveryLook, EveryLookShown, EverySlotLogged, EveryMailboxRead};
 ghost use Rattle.pmc330_model.specs.Waiting.{EveryWait, EverySlotWait, EveryBurstWait, ShortMisses, NoShorterWait};
 ghost use Rattle.pmc330_model.specs.Bench.{BenchCases};
 
@@ -42,6 +42,11 @@ pub fn schedule()
 /// After a start the board shows no New and no Missed bit, in any slot.
 pub fn starts_clear()
     ensures { EveryStart }
+{}
+
+/// The logbook of no calls is that of a new board: no cycle, the event reset, and all else 0 but the range.
+pub fn opened_empty()
+    ensures { EveryOpening }
 {}
 
 /// An accepted advance of n counts as n ticks, a refused call as none.

@@ -39,7 +39,7 @@ on_range_1 fields = heading 1 ++ fields
 abbrev pub refused : (trace : List ℕ) (number room : ℕ) → Case
 refused trace number room = plays trace number (replicate room 0xee) (replicate room 0xee)
 
--- one field for each tag: the numbers in its body low byte first, and a voltage in two's complement
+-- fields of each later tag, two of 03H: the numbers in a body low byte first, and a voltage in two's complement
 abbrev pub every_tag : List ℕ
 every_tag =
     0x01 ∷ 0x03 ∷ 0x00 ∷ 0x10 ∷ 0x34 ∷ 0x12

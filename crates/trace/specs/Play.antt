@@ -12,7 +12,7 @@ answers_follow before [] = true
 answers_follow before (field ∷ fields) =
     (if is_answer_tag field.tag then is_call_tag before else true) && answers_follow field.tag fields
 
--- 18: the trace has at most 16,777,216 bytes and begins with the heading
+-- 18: the trace has at most 16,777,216 bytes and begins with the heading, whose range is 0 to 3
 -- 19: every later field is whole, with its tag's length, and is a call or a recorded answer
 -- 26: the field before each recorded answer is a call
 abbrev pub field_questions : (trace : List ℕ) → List Question
