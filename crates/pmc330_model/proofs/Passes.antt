@@ -10,7 +10,6 @@ use Rattle.std.proofs.lemmas.Bool.{cases_lt}
 use Rattle.pmc330_model.specs.Schedule.{pass_length, interval, is_differential, is_uniform, channel_of, in_odd_pass, slot_of, burst_delay, begins_at, pass_ticks}
 use Rattle.pmc330_model.specs.Waiting.{slot_passes}
 use Rattle.pmc330_model.specs.declared.Registers.{Registers}
-use Rattle.pmc330_model.proofs.Schedule.{place_below}
 
 -- of periods of some ticks, the one whose moment, 64 ticks later, falls into a span of one period and some ticks more
 pub record Falls (T t period more moment : ℕ) : Type 0 where
@@ -101,7 +100,7 @@ module _ (r : Registers) where
   begins_within n i h =
       let pass : suc (i / m) ≤ n = (div-lt_iff_lt-mul some_places).1 h in
       let most = mul-le-mul_right (pass_ticks r) pass in
-      rw (closed i) (omega (arith, rw (suc-mul (i / m) (pass_ticks r)) at most, place_within (i % m) (place_below r i)))
+      rw (closed i) (omega (arith, rw (suc-mul (i / m) (pass_ticks r)) at most, place_within (i % m) (mod-lt i some_places)))
 
   -- in burst mode even its store comes by the end of the first pass
   pub stored_within : is_uniform r ≡ false → (i : ℕ) → i < m → begins_at r i + 64 ≤ pass_ticks r

@@ -11,10 +11,12 @@ use lib.ListN.{length}
 use borrow.Author.Tests.{eq-eqb, eqb-true, lt-ltb, ltb-true, le-leb, leb-true}
 use Rattle.std.proofs.lemmas.Bool.{cases_lt, cases_Bool, and_parts}
 use Rattle.analog.specs.Answers.{first_no, all_met}
+use Rattle.std.specs.Prelude.{Option, Some, None}
+use Rattle.schedule.specs.Schedule.{first_from}
 use Rattle.pmc330_model.specs.Map.{class_of, trigger_field}
 use Rattle.pmc330_model.specs.declared.Register.{Register}
 use Rattle.pmc330_model.specs.Words.{is_release, is_stop, is_start}
-use Rattle.pmc330_model.specs.Schedule.{pass_length, is_single, is_timed, is_trigger_only, channel_of, ends_pass, code_at, begins_at, is_scheduled, Due, none, conversion, or_else, first_from}
+use Rattle.pmc330_model.specs.Schedule.{pass_length, is_single, is_timed, is_trigger_only, channel_of, ends_pass, code_at, begins_at, is_scheduled}
 use Rattle.pmc330_model.specs.Calls.{Call, read, write, advance, trigger, reset}
 use Rattle.pmc330_model.specs.Questions.{call_questions, resulting_word, has_channels, has_interval}
 use Rattle.pmc330_model.specs.Logbook.{Event, Running, idle, since, release, was_read, Logbook, with_happened, begins, stores, due_after, if_due, stores_in_time, stores_due, begins_due, tick_passes, ticks_pass, starts, is_taken, stores_before, takes, arms_by_trigger, triggered_in, trigger_comes, read_event, writes, happens, is_idle, logbook_questions, logged}
@@ -22,21 +24,21 @@ use Rattle.pmc330_model.specs.Sentences.{last_conversion, InCycle, may_store, st
 use Rattle.pmc330_model.specs.declared.Registers.{Registers}
 use Rattle.pmc330_model.proofs.Agreement.{Startable}
 use Rattle.pmc330_model.proofs.Cycles.{accepted_is, refused_is, cycle_starts, bits_clear, cycle_ends, no_start, cycle_stays, events, reads, inputs, writes_is, resets}
-use Rattle.pmc330_model.proofs.Due.{due_found, due_none, unscheduled_later, scheduled_next}
+use Rattle.pmc330_model.proofs.Due.{due_found, due_none, untimed_due, unscheduled_later, scheduled_next}
 use Rattle.pmc330_model.proofs.QuestionLaws.{running_unstarted}
-use Rattle.pmc330_model.proofs.Schedule.{before, search_none}
+use Rattle.pmc330_model.proofs.Schedule.{before}
 
 -- ---- the search
 
 -- what the search finds passes the test
-search_real : (test : ℕ → Bool) (n from k : ℕ) → first_from test n from ≡ conversion k → test k ≡ true
+search_real : (test : ℕ → Bool) (n from k : ℕ) → first_from test n from ≡ Some k → test k ≡ true
 unfolding first_from
 search_real test zero from k e = cc
 search_real test (suc n) from k e = go (test from) refl (search_real test n (suc from) k) e
   where
     go :
-        (t : Bool) → test from ≡ t → (first_from test n (suc from) ≡ conversion k → test k ≡ true)
-        → or_else t from (first_from test n (suc from)) ≡ conversion k → test k ≡ true
+        (t : Bool) → test from ≡ t → (first_from test n (suc from) ≡ Some k → test k ≡ true)
+        → cond t (Some from) (first_from test n (suc from)) ≡ Some k → test k ≡ true
     go true here later e = let same : from ≡ k = cc in subst (λ (i : ℕ). test i ≡ true) same here
     go false here later e = later e
 
@@ -57,32 +59,32 @@ begins_same : (l : Logbook) → Same l (begins_due l)
 begins_same l = grind arith
 
 -- whether the store that is due ends a single cycle
-abbrev pub ends_cycle : Registers → Due → Bool
-ends_cycle r none = false
-ends_cycle r (conversion k) = is_single r && ends_pass r k
+abbrev pub ends_cycle : Registers → Option ℕ → Bool
+ends_cycle r None = false
+ends_cycle r (Some k) = is_single r && ends_pass r k
 
 -- the store that is due is the tick's one event
-pub record Stored (l after : Logbook) (due : Due) : Type 0 where
+pub record Stored (l after : Logbook) (due : Option ℕ) : Type 0 where
   pub registers : after.registers ≡ l.registers
   pub events : after.events ≡ (if_due due stores (next l)).events
   pub tick : after.tick ≡ suc l.tick
   pub cycle : after.cycle ≡ cond (ends_cycle l.registers due) idle l.cycle
 
-pub tick_is : (l : Logbook) (due : Due) → due_after 64 l.registers (suc l.tick) l.cycle ≡ due → Stored l (tick_passes l) due
+pub tick_is : (l : Logbook) (due : Option ℕ) → due_after 64 l.registers (suc l.tick) l.cycle ≡ due → Stored l (tick_passes l) due
 unfolding tick_passes
 tick_is l due e = grind arith
 
 -- a tick moves the tick, the code, the cycle and the events alone
-abbrev moved : Logbook → (stored due : Due) → Logbook
+abbrev moved : Logbook → (stored due : Option ℕ) → Logbook
 moved l stored due = if_due due begins (if_due stored stores_in_time (next l))
 
 moved_is :
-    (l : Logbook) (stored due : Due)
+    (l : Logbook) (stored due : Option ℕ)
     → moved l stored due ≡ with_happened l (suc l.tick) (moved l stored due).taken (moved l stored due).cycle (moved l stored due).events
-moved_is l none none = refl
-moved_is l none (conversion k) = refl
-moved_is l (conversion j) none = refl
-moved_is l (conversion j) (conversion k) = refl
+moved_is l None None = refl
+moved_is l None (Some k) = refl
+moved_is l (Some j) None = refl
+moved_is l (Some j) (Some k) = refl
 
 tick_keeps : (l : Logbook) → tick_passes l ≡ with_happened l (suc l.tick) (tick_passes l).taken (tick_passes l).cycle (tick_passes l).events
 unfolding tick_passes
@@ -92,24 +94,19 @@ tick_keeps l =
 
 -- the code that the tick takes, by what begins at it once the store is made
 tick_taken :
-    (l : Logbook) (stored due : Due) → due_after 64 l.registers (suc l.tick) l.cycle ≡ stored
+    (l : Logbook) (stored due : Option ℕ) → due_after 64 l.registers (suc l.tick) l.cycle ≡ stored
     → due_after 0 l.registers (suc l.tick) (cond (ends_cycle l.registers stored) idle l.cycle) ≡ due
     → (tick_passes l).taken ≡ (if_due due begins l).taken
 unfolding tick_passes
 tick_taken l stored due e f = grind arith
 
 -- a tick at which nothing is due
-tick_none : (l : Logbook) → ((delay : ℕ) → due_after delay l.registers (suc l.tick) l.cycle ≡ none) → tick_passes l ≡ next l
+tick_none : (l : Logbook) → ((delay : ℕ) → due_after delay l.registers (suc l.tick) l.cycle ≡ None) → tick_passes l ≡ next l
 unfolding tick_passes
 tick_none l h = grind arith
 
--- a mode that is not timed has no conversion in time, and neither has an idle board
-untimed_due : (delay : ℕ) (r : Registers) (tick : ℕ) (cycle : Running) → is_timed r ≡ false → due_after delay r tick cycle ≡ none
-unfolding due_after
-untimed_due delay r tick idle untimed = refl
-untimed_due delay r tick (since T triggers) untimed = search_none _ (suc tick) 0 (λ j low. rw untimed)
-
-idle_due : (delay : ℕ) (r : Registers) (tick : ℕ) (cycle : Running) → cycle ≡ idle → due_after delay r tick cycle ≡ none
+-- an idle board has no conversion in time
+idle_due : (delay : ℕ) (r : Registers) (tick : ℕ) (cycle : Running) → cycle ≡ idle → due_after delay r tick cycle ≡ None
 unfolding due_after
 idle_due delay r tick cycle e = ap (due_after delay r tick) e
 
@@ -136,7 +133,7 @@ module _ (l : Logbook) (T : ℕ) (triggers : List ℕ) (running : l.cycle ≡ si
   r = l.registers
 
   real :
-      (delay tick k : ℕ) → due_after delay r tick (since T triggers) ≡ conversion k
+      (delay tick k : ℕ) → due_after delay r tick (since T triggers) ≡ Some k
       → (is_scheduled r k ≡ true) × (T + begins_at r k + delay ≡ tick)
   unfolding due_after
   real delay tick k e =
@@ -147,10 +144,10 @@ module _ (l : Logbook) (T : ℕ) (triggers : List ℕ) (running : l.cycle ≡ si
   one : (i k : ℕ) → begins_at r i ≡ begins_at r k → i ≡ k
   one i k e =
       ⊎_elim
-      (λ (less : i < k). absurd (omega (arith, before r startable.slow i k less)))
+      (λ (less : i < k). absurd (omega (arith, before r timed startable i k less)))
       (λ (least : k ≤ i).
       ⊎_elim
-      (λ (more : k < i). absurd (omega (arith, before r startable.slow k i more)))
+      (λ (more : k < i). absurd (omega (arith, before r timed startable k i more)))
       (λ (most : i ≤ k). omega arith)
       (cases_lt k i))
       (cases_lt i k)
@@ -162,26 +159,26 @@ module _ (l : Logbook) (T : ℕ) (triggers : List ℕ) (running : l.cycle ≡ si
       (λ (less : j < k). less)
       (λ (least : k ≤ j).
       ⊎_elim
-      (λ (more : k < j). absurd (omega (arith, before r startable.slow k j more)))
+      (λ (more : k < j). absurd (omega (arith, before r timed startable k j more)))
       (λ (most : j ≤ k). let same : j ≡ k = omega arith in absurd (omega (arith, ap (begins_at r) same)))
       (cases_lt k j))
       (cases_lt j k)
 
-  found_now : (delay k : ℕ) → is_scheduled r k ≡ true → T + begins_at r k + delay ≡ suc l.tick → due_after delay r (suc l.tick) l.cycle ≡ conversion k
+  found_now : (delay k : ℕ) → is_scheduled r k ≡ true → T + begins_at r k + delay ≡ suc l.tick → due_after delay r (suc l.tick) l.cycle ≡ Some k
   found_now delay k scheduled at =
-      ap (due_after delay r (suc l.tick)) running ∙ due_found r startable T delay (suc l.tick) k triggers scheduled at
+      ap (due_after delay r (suc l.tick)) running ∙ due_found r startable timed T delay (suc l.tick) triggers k scheduled at
 
   none_now :
       (delay : ℕ) → ((k : ℕ) → is_scheduled r k ≡ true → T + begins_at r k + delay ≡ suc l.tick → ⊥)
-      → due_after delay r (suc l.tick) l.cycle ≡ none
-  none_now delay fails = ap (due_after delay r (suc l.tick)) running ∙ due_none r startable T delay (suc l.tick) triggers fails
+      → due_after delay r (suc l.tick) l.cycle ≡ None
+  none_now delay fails = ap (due_after delay r (suc l.tick)) running ∙ due_none r startable timed T delay (suc l.tick) triggers fails
 
   -- the store of a tick at which a conversion begins does not end the cycle: the one that begins is scheduled later
   goes_on :
       (k : ℕ) → is_scheduled r k ≡ true → T + begins_at r k ≡ suc l.tick
-      → (due : Due) → due_after 64 r (suc l.tick) l.cycle ≡ due → ends_cycle r due ≡ false
-  goes_on k scheduled at none e = refl
-  goes_on k scheduled at (conversion j) e =
+      → (due : Option ℕ) → due_after 64 r (suc l.tick) l.cycle ≡ due → ends_cycle r due ≡ false
+  goes_on k scheduled at None e = refl
+  goes_on k scheduled at (Some j) e =
       let stored = real 64 (suc l.tick) j (sym (ap (due_after 64 r (suc l.tick)) running) ∙ e) in
       let less : suc j ≤ k = after j k (omega (arith, stored.1)) in
       ⊎_elim
@@ -195,15 +192,15 @@ module _ (l : Logbook) (T : ℕ) (triggers : List ℕ) (running : l.cycle ≡ si
       (k : ℕ) → is_scheduled r k ≡ true → T + begins_at r k ≡ suc l.tick
       → (tick_passes l).taken ≡ code_at l.range r l.gains l.inputs (channel_of r k)
   begun k scheduled at =
-      tick_taken l (due_after 64 r (suc l.tick) l.cycle) (conversion k) refl
+      tick_taken l (due_after 64 r (suc l.tick) l.cycle) (Some k) refl
       (ap (λ (t : Bool). due_after 0 r (suc l.tick) (cond t idle l.cycle))
       (goes_on k scheduled at (due_after 64 r (suc l.tick) l.cycle) refl)
       ∙ found_now 0 k scheduled (add-zero (T + begins_at r k) ∙ at))
 
   unbegun : ((k : ℕ) → is_scheduled r k ≡ true → T + begins_at r k ≡ suc l.tick → ⊥) → (tick_passes l).taken ≡ l.taken
-  unbegun fails = tick_taken l (due_after 64 r (suc l.tick) l.cycle) none refl (go (ends_cycle r (due_after 64 r (suc l.tick) l.cycle)))
+  unbegun fails = tick_taken l (due_after 64 r (suc l.tick) l.cycle) None refl (go (ends_cycle r (due_after 64 r (suc l.tick) l.cycle)))
     where
-      go : (ends : Bool) → due_after 0 r (suc l.tick) (cond ends idle l.cycle) ≡ none
+      go : (ends : Bool) → due_after 0 r (suc l.tick) (cond ends idle l.cycle) ≡ None
       go true = idle_due 0 r (suc l.tick) idle refl
       go false = none_now 0 (λ k scheduled at. fails k scheduled (sym (add-zero (T + begins_at r k)) ∙ at))
 
@@ -211,7 +208,7 @@ module _ (l : Logbook) (T : ℕ) (triggers : List ℕ) (running : l.cycle ≡ si
   ended :
       is_single r ≡ true → T + begins_at r (last_conversion r) + 64 ≡ suc l.tick → (tick_passes l).cycle ≡ idle
   ended single at =
-      (tick_is l (conversion (last_conversion r)) (found_now 64 (last_conversion r) scheduled at)).cycle ∙ rw (single, last_ends r) refl
+      (tick_is l (Some (last_conversion r)) (found_now 64 (last_conversion r) scheduled at)).cycle ∙ rw (single, last_ends r) refl
     where
       scheduled : is_scheduled r (last_conversion r) ≡ true
       scheduled = rw (timed, single) (lt-ltb (last_conversion r) (pass_length r) (omega arith))
@@ -226,21 +223,21 @@ module _ (l : Logbook) (T : ℕ) (triggers : List ℕ) (running : l.cycle ≡ si
       goes j scheduled at true false s e = refl
       goes j scheduled at false last s e = refl
 
-      go : (due : Due) → due_after 64 r (suc l.tick) l.cycle ≡ due → (tick_passes l).cycle ≡ l.cycle
-      go none e = (tick_is l none e).cycle
-      go (conversion j) e =
+      go : (due : Option ℕ) → due_after 64 r (suc l.tick) l.cycle ≡ due → (tick_passes l).cycle ≡ l.cycle
+      go None e = (tick_is l None e).cycle
+      go (Some j) e =
           let stored = real 64 (suc l.tick) j (sym (ap (due_after 64 r (suc l.tick)) running) ∙ e) in
-          (tick_is l (conversion j) e).cycle
+          (tick_is l (Some j) e).cycle
           ∙ ap (λ (t : Bool). cond t idle l.cycle) (goes j stored.0 stored.1 (is_single r) (ends_pass r j) refl refl)
 
   in_cycle : InCycle l T triggers
   in_cycle =
       record {
-        found = λ delay tick k. due_found r startable T delay tick k triggers;
+        found = λ delay tick k. due_found r startable timed T delay tick triggers k;
         real = real;
         one = one;
-        stored = λ k scheduled at. (tick_is l (conversion k) (found_now 64 k scheduled at)).events;
-        unstored = λ fails. (tick_is l none (none_now 64 fails)).events;
+        stored = λ k scheduled at. (tick_is l (Some k) (found_now 64 k scheduled at)).events;
+        unstored = λ fails. (tick_is l None (none_now 64 fails)).events;
         begun = begun;
         unbegun = unbegun;
         ended = ended;

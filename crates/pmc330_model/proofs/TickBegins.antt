@@ -18,7 +18,10 @@ use Rattle.pmc330_model.specs.declared.Board.{Board}
 use Rattle.pmc330_model.proofs.Agreement.{book_of, Memory, Limits, Startable, InFlight, AllStored, ToCome, NoMore, Agrees}
 use Rattle.pmc330_model.proofs.Begins.{begins_is, begun_ends, begun_lead, begun_index, begun_odd, begun_slot, begun_held}
 use Rattle.pmc330_model.proofs.Due.{due_found, due_none, unscheduled_later, scheduled_next}
-use Rattle.pmc330_model.proofs.Schedule.{step, step_after, step_long, before}
+use Rattle.schedule.proofs.Schedule as laws
+use Rattle.pmc330_model.specs.Plan.{plan_of}
+use Rattle.pmc330_model.proofs.Schedule.{apart_is, before}
+use Rattle.pmc330_model.proofs.Schedule as formulas
 
 -- where a cycle stands between a tick's store and its beginning: `old` is the cycle before the tick
 pub record Between (r : Registers) (T tick k : ℕ) (old c : Cycle) : Type 0 where
@@ -36,6 +39,9 @@ module _ (r : Registers) (startable : Startable r) (T tick k : ℕ) (timed : is_
   pub next_after : ToCome r T tick (suc k) c ⊎ NoMore r (suc k) c
   next_after = go (is_single r && ends_pass r k) refl
     where
+      step_lead : (is_single r && ends_pass r k) ≡ false → lead_after r (ends_pass r k) ≡ laws.step_after (plan_of r) (ends_pass r k)
+      step_lead e = grind (arith, timed)
+
       go : (over : Bool) → (is_single r && ends_pass r k) ≡ over → ToCome r T tick (suc k) c ⊎ NoMore r (suc k) c
       go true e =
           inr
@@ -44,12 +50,12 @@ module _ (r : Registers) (startable : Startable r) (T tick k : ℕ) (timed : is_
             none = lead ∙ rw (timed, e);
           })
       go false e =
-          let long : c.lead ≡ step_after r (ends_pass r k) = lead ∙ rw (timed, e) in
+          let long : c.lead ≡ laws.step_after (plan_of r) (ends_pass r k) = lead ∙ step_lead e in
           inl
           (record {
             scheduled = scheduled_next r timed k scheduled ∙ ap not e;
-            some = omega (arith, step_long r startable.slow (ends_pass r k));
-            due = omega (arith, step r k);
+            some = omega (arith, laws.step_long (plan_of r) (apart_is r timed startable) (ends_pass r k));
+            due = omega (arith, formulas.begins_is r timed k, formulas.begins_is r timed (suc k), laws.step (plan_of r) k);
           })
 
 module _ (s : Board) (startable : Startable s.registers) (T tick k : ℕ) (triggers : List ℕ) (events : List Event) (old : Cycle)
@@ -66,7 +72,7 @@ module _ (s : Board) (startable : Startable s.registers) (T tick k : ℕ) (trigg
   begins_now next one =
       let now : T + begins_at s.registers k ≡ suc tick = omega (arith, next.due) in (
         ap (λ due. if_due due begins (book_of s (suc tick) (since T triggers) events))
-            (due_found s.registers startable T 0 (suc tick) k triggers next.scheduled (add-zero _ ∙ now))
+            (due_found s.registers startable between.timed T 0 (suc tick) triggers k next.scheduled (add-zero _ ∙ now))
             ∙ begins_is s startable k between.index (suc tick) (since T triggers) events,
         record {
           memory = memory;
@@ -110,7 +116,7 @@ module _ (s : Board) (startable : Startable s.registers) (T tick k : ℕ) (trigg
       → Begun s
   nothing_begins fails next = (
     ap (λ due. if_due due begins (book_of s (suc tick) (since T triggers) events))
-        (due_none s.registers startable T 0 (suc tick) triggers fails),
+        (due_none s.registers startable between.timed T 0 (suc tick) triggers fails),
     record {
       memory = memory;
       held = held;
@@ -139,7 +145,7 @@ module _ (s : Board) (startable : Startable s.registers) (T tick k : ℕ) (trigg
   other_begins i e (inr later) late =
       ⊎_elim
       (λ (same : k ≡ i). omega (arith, rw same at late))
-      (λ (more : k < i). omega (arith, before s.registers startable.slow k i more))
+      (λ (more : k < i). omega (arith, before s.registers between.timed startable k i more))
       (eq-or-lt_of_le later)
 
   waits : ToCome s.registers T tick k old → (old.lead ≡ 1 → ⊥) → Begun s

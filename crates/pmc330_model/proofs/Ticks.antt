@@ -8,30 +8,31 @@ use native.Mathlib.Nat.{eq-or-lt_of_le, zero-add}
 use native.Mathlib.Omega.{arith}
 use lib.Dec.{eqb}
 use borrow.Author.Tests.{eq-eqb, ne_eqb}
-use Rattle.std.proofs.lemmas.Bool.{cases_lt, cases_eq, cases_Bool, and_parts, both_ways}
-use Rattle.pmc330_model.specs.Schedule.{is_single, is_timed, ends_pass, begins_at, is_scheduled, none}
+use Rattle.std.proofs.lemmas.Bool.{cases_lt, cases_eq, cases_Bool}
+use Rattle.pmc330_model.specs.Schedule.{is_single, is_timed, ends_pass, begins_at, is_scheduled}
 use Rattle.pmc330_model.specs.Board.{idle_cycle, with_cycle, stored, stored_in_time, elapsed, is_store_due, stored_if_due, begun_if_due, ticked, advanced, stores_in}
 use Rattle.pmc330_model.specs.Logbook.{Event, Running, idle, since, due_after, if_due, stores_in_time, stores_due, begins, begins_due, tick_passes, ticks_pass, stores_made}
 use Rattle.pmc330_model.specs.declared.Registers.{Registers}
 use Rattle.pmc330_model.specs.declared.Cycle.{Cycle}
 use Rattle.pmc330_model.specs.declared.Board.{Board}
 use Rattle.pmc330_model.proofs.Agreement.{book_of, Memory, Limits, Startable, InFlight, AllStored, ToCome, NoMore, Timed, Waiting, Untriggered, Armed, Agrees, Moved}
-use Rattle.pmc330_model.proofs.Due.{due_found, due_none, unscheduled_later}
+use Rattle.std.specs.Prelude.{None}
+use Rattle.pmc330_model.proofs.Due.{due_found, due_none, untimed_due, unscheduled_later}
 use Rattle.pmc330_model.proofs.Schedule.{before}
 use Rattle.pmc330_model.proofs.Stores.{store_of, stored_memory}
 use Rattle.pmc330_model.proofs.TickBegins.{Between, begin_half}
 
 -- every conversion before the next one has begun
-began_before : (r : Registers) → Startable r → (T tick k : ℕ) (c : Cycle) → InFlight r T tick k c ⊎ AllStored r T tick k c → (i : ℕ) → i < k → T + begins_at r i ≤ tick
-began_before r startable T tick k c (inl flight) i h =
+began_before : (r : Registers) → is_timed r ≡ true → Startable r → (T tick k : ℕ) (c : Cycle) → InFlight r T tick k c ⊎ AllStored r T tick k c → (i : ℕ) → i < k → T + begins_at r i ≤ tick
+began_before r timed startable T tick k c (inl flight) i h =
     ⊎_elim
     (λ (same : i ≡ flight.j). rw same (omega (arith, flight.due, flight.most)))
-    (λ (less : i < flight.j). omega (arith, flight.due, flight.most, before r startable.slow i flight.j less))
+    (λ (less : i < flight.j). omega (arith, flight.due, flight.most, before r timed startable i flight.j less))
     (eq-or-lt_of_le (at_most flight.last h))
   where
     at_most : {n j : ℕ} → n ≡ suc j → i < n → i ≤ j
     at_most e less = omega arith
-began_before r startable T tick k c (inr all) i h = omega (arith, all.past i h)
+began_before r timed startable T tick k c (inr all) i h = omega (arith, all.past i h)
 
 module _ (b : Board) (tick T : ℕ) (triggers : List ℕ) (events : List Event) (startable : Startable b.registers)
     (memory : Memory events b.codes b.unread b.pending) (limits : Limits b.registers) (held : b.held < 65536)
@@ -44,7 +45,7 @@ module _ (b : Board) (tick T : ℕ) (triggers : List ℕ) (events : List Event) 
   k = timed.k
 
   began : (i : ℕ) → i < k → T + begins_at b.registers i ≤ tick
-  began = began_before b.registers startable T tick k b.cycle timed.flight
+  began = began_before b.registers timed.timed startable T tick k b.cycle timed.flight
 
   store_due_is : is_store_due b ≡ eqb b.cycle.lag 1
   store_due_is = rw (timed.running, timed.timed)
@@ -90,7 +91,7 @@ module _ (b : Board) (tick T : ℕ) (triggers : List ℕ) (events : List Event) 
           events = events;
           same =
               ap (λ due. begins_due (if_due due stores_in_time (book_of later (suc tick) (since T triggers) events)))
-              (due_none b.registers startable T 64 (suc tick) triggers none-due)
+              (due_none b.registers startable timed.timed T 64 (suc tick) triggers none-due)
               ∙ half.0;
           agrees = half.1;
           count = sym (zero-add (stores_made events));
@@ -104,7 +105,7 @@ module _ (b : Board) (tick T : ℕ) (triggers : List ℕ) (events : List Event) 
       go (inl next) =
           ⊎_elim
           (λ (same : k ≡ i). omega (arith, rw same at next.due))
-          (λ (more : k < i). omega (arith, next.due, before b.registers startable.slow k i more))
+          (λ (more : k < i). omega (arith, next.due, before b.registers timed.timed startable k i more))
           (eq-or-lt_of_le h)
       go (inr next) =
           cc (unscheduled_later b.registers timed.timed k i next.unscheduled h)
@@ -122,7 +123,7 @@ module _ (b : Board) (tick T : ℕ) (triggers : List ℕ) (events : List Event) 
   module _ (flight : InFlight b.registers T tick k b.cycle) where
     -- a conversion before the one in progress was stored before this tick
     earlier_stored : (i : ℕ) → i < flight.j → T + begins_at b.registers i + 64 ≤ tick
-    earlier_stored i h = omega (arith, flight.due, flight.most, before b.registers startable.slow i flight.j h)
+    earlier_stored i h = omega (arith, flight.due, flight.most, before b.registers timed.timed startable i flight.j h)
 
     before_last : (i : ℕ) → i < k → (i ≡ flight.j) ⊎ (i < flight.j)
     before_last i h = grind arith
@@ -163,7 +164,7 @@ module _ (b : Board) (tick T : ℕ) (triggers : List ℕ) (events : List Event) 
       unfolding stored
       stored_book =
           ap (λ due. if_due due stores_in_time (book_of b (suc tick) (since T triggers) events))
-          (due_found b.registers startable T 64 (suc tick) flight.j triggers flight.scheduled (flight.due ∙ now one))
+          (due_found b.registers startable timed.timed T 64 (suc tick) triggers flight.j flight.scheduled (flight.due ∙ now one))
         where
           now : {n : ℕ} → n ≡ 1 → tick + n ≡ suc tick
           now e = omega arith
@@ -287,10 +288,8 @@ module _ (b : Board) (tick T : ℕ) (triggers : List ℕ) (events : List Event) 
 -- an armed cycle: time passes, and nothing is due
 module _ (b : Board) (tick T : ℕ) (triggers : List ℕ) (events : List Event) (agrees : Agrees b tick (since T triggers) events)
     (startable : Startable b.registers) (armed : Armed b.registers tick triggers b.cycle) where
-  never_due : (delay : ℕ) → due_after delay b.registers (suc tick) (since T triggers) ≡ none
-  never_due delay =
-      due_none b.registers startable T delay (suc tick) triggers
-      (λ i scheduled e. absurd (both_ways _ armed.timed (and_parts _ _ scheduled).0))
+  never_due : (delay : ℕ) → due_after delay b.registers (suc tick) (since T triggers) ≡ None
+  never_due delay = untimed_due delay b.registers (suc tick) (since T triggers) armed.timed
 
   abbrev passed : Board
   passed = with_cycle b (elapsed b.cycle)

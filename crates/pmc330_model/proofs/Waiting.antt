@@ -11,11 +11,13 @@ use borrow.Author.Tests.{eq-eqb, eqb-true, not-true}
 use Rattle.std.proofs.lemmas.Bool.{cases_Bool, and_parts, or_right}
 use Rattle.analog.specs.Answers.{first_no, all_met}
 use Rattle.analog.proofs.AnswerLaws.{some_first}
+use Rattle.std.specs.Prelude.{Option, Some, None}
+use Rattle.schedule.specs.Schedule.{first_from}
 use Rattle.pmc330_model.specs.Map.{class_of, scan_field, word_at}
 use Rattle.pmc330_model.specs.declared.Register.{Register}
 use Rattle.pmc330_model.specs.declared.Register.TheVariants.{Interrupt, Control, StartConvert}
 use Rattle.pmc330_model.specs.Words.{with_word, is_stop, is_start, joined, held_word, written_word}
-use Rattle.pmc330_model.specs.Schedule.{pass_length, is_differential, is_uniform, is_single, is_continuous, is_timed, is_trigger_only, is_burst, channel_of, slot_of, ends_pass, begins_at, pass_ticks, is_scheduled, Due, none, conversion, first_from}
+use Rattle.pmc330_model.specs.Schedule.{pass_length, is_differential, is_uniform, is_single, is_continuous, is_timed, is_trigger_only, is_burst, channel_of, slot_of, ends_pass, begins_at, pass_ticks, is_scheduled}
 use Rattle.pmc330_model.specs.Calls.{Call, read, write, input, advance, trigger, reset, look, clear}
 use Rattle.pmc330_model.specs.Questions.{is_allowed, resulting_word, call_questions}
 use Rattle.pmc330_model.specs.Logbook.{Event, Store, Running, idle, since, cycle_start, store, store_at, Logbook, stores, due_after, if_due, tick_passes, ticks_pass, starts, trigger_comes, writes, happens, is_idle, logbook_questions, logged, logged_from, new_logbook}
@@ -117,12 +119,12 @@ module _ (r : Registers) (T : ℕ) (startable : Startable r) (continuous : is_co
     slot_same k = ap (λ (s : Registers). slot_of s k) h.registers
 
     -- a tick
-    goes_on : (due : Due) → ends_cycle l.registers due ≡ false
-    goes_on none = refl
-    goes_on (conversion k) =
+    goes_on : (due : Option ℕ) → ends_cycle l.registers due ≡ false
+    goes_on None = refl
+    goes_on (Some k) =
         ap (λ (t : Bool). t && ends_pass l.registers k) (ap is_single h.registers ∙ modes.unended)
 
-    abbrev due : Due
+    abbrev due : Option ℕ
     due = due_after 64 l.registers (suc l.tick) l.cycle
 
     -- the store that conversion k of this logbook makes at the next tick
@@ -132,9 +134,9 @@ module _ (r : Registers) (T : ℕ) (startable : Startable r) (continuous : is_co
     earlier_stored : (test : Store → Bool) → any_store test l.events ≡ true → any_store test (tick_passes l).events ≡ true
     earlier_stored test e = subst (λ (events : List Event). any_store test events ≡ true) (sym (tick_is l due refl).events) (go due)
       where
-        go : (d : Due) → any_store test (if_due d stores (next l)).events ≡ true
-        go none = e
-        go (conversion k) = any_earlier test (store_next k) l.events e
+        go : (d : Option ℕ) → any_store test (if_due d stores (next l)).events ≡ true
+        go None = e
+        go (Some k) = any_earlier test (store_next k) l.events e
 
     scheduled_here : (k : ℕ) → is_scheduled l.registers k ≡ true
     scheduled_here k = grind arith

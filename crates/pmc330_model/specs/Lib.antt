@@ -1,6 +1,7 @@
 pub mod Map
 pub mod Words
 pub mod Schedule
+pub mod Plan
 pub mod Calls
 pub mod Questions
 pub mod Board

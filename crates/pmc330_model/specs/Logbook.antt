@@ -1,11 +1,12 @@
 -- The logbook: a definition that is fed the new board's range and then the calls with their arguments in order, and nothing else.
 -- Its numbers have no bound. It knows nothing of the board's own state.
-use Rattle.std.specs.Prelude.{ℕ, zero, suc, ◌+◌, ◌-◌, Bool, true, false, ◌&&◌, ◌||◌, List, [], ◌∷◌, ℤ, pos, set, replicate, length, if◌then◌else◌, ◌==◌, nat_le}
+use Rattle.std.specs.Prelude.{ℕ, zero, suc, ◌+◌, ◌-◌, Bool, true, false, ◌&&◌, ◌||◌, Option, Some, None, List, [], ◌∷◌, ℤ, pos, set, replicate, length, if◌then◌else◌, ◌==◌, nat_le}
 use Rattle.analog.specs.Answers.{Question, first_no, answered, Answer}
 use Rattle.pmc330_model.specs.Map.{if_mailbox, class_of, trigger_field}
 use Rattle.pmc330_model.specs.declared.Register.{Register}
 use Rattle.pmc330_model.specs.Words.{View, read_word, look_value, read_bytes, with_word, gains_with, is_release, is_stop, is_start}
-use Rattle.pmc330_model.specs.Schedule.{is_burst, is_single, is_timed, is_trigger_only, channel_of, slot_of, ends_pass, code_at, formatted_by, is_interrupting, begins_at, is_scheduled, Due, none, conversion, first_from}
+use Rattle.schedule.specs.Schedule.{first_from}
+use Rattle.pmc330_model.specs.Schedule.{is_burst, is_single, is_timed, is_trigger_only, channel_of, slot_of, ends_pass, code_at, formatted_by, is_interrupting, begins_at, is_scheduled}
 use Rattle.pmc330_model.specs.Calls.{Call, read, write, input, advance, trigger, reset, look, clear}
 use Rattle.pmc330_model.specs.Questions.{call_questions, resulting_word, has_channels, has_interval}
 use Rattle.pmc330_model.specs.declared.Registers.{Registers}
@@ -135,14 +136,14 @@ stores_in_time k l =
 
 -- the conversion k of the schedule with T + its beginning + delay = tick, if any.
 -- Conversion k begins at T + k or later, so that the numbers up to the tick are enough to search: `InCycle` in Sentences states it
-unfoldable pub due_after : (delay : ℕ) → Registers → (tick : ℕ) → Running → Due
-due_after delay r tick idle = none
+unfoldable pub due_after : (delay : ℕ) → Registers → (tick : ℕ) → Running → Option ℕ
+due_after delay r tick idle = None
 due_after delay r tick (since T triggers) =
     first_from (λ k. is_scheduled r k && T + begins_at r k + delay == tick) (suc tick) 0
 
-abbrev pub if_due : Due → (ℕ → Logbook → Logbook) → Logbook → Logbook
-if_due none f l = l
-if_due (conversion k) f l = f k l
+abbrev pub if_due : Option ℕ → (ℕ → Logbook → Logbook) → Logbook → Logbook
+if_due None f l = l
+if_due (Some k) f l = f k l
 
 -- a conversion is stored 64 ticks after it began
 abbrev pub stores_due : Logbook → Logbook

@@ -1,5 +1,5 @@
 -- The formulas of the schedule (data sheet, "The schedule"), to which both the board and the logbook are held.
-use Rattle.std.specs.Prelude.{ℕ, zero, suc, ◌+◌, ◌-◌, ◌*◌, ◌/◌, ◌%◌, Bool, true, false, not, ◌&&◌, ◌||◌, List, ℤ, pos, slice_index, slice_index_or, if◌then◌else◌, ◌==◌, nat_lt}
+use Rattle.std.specs.Prelude.{ℕ, ◌+◌, ◌-◌, ◌*◌, ◌/◌, ◌%◌, Bool, not, ◌&&◌, ◌||◌, List, ℤ, pos, slice_index, slice_index_or, if◌then◌else◌, ◌==◌, nat_lt}
 use Rattle.analog.specs.Code.{calibration_of, code_of, in_format}
 use Rattle.pmc330_model.specs.Map.{is_straight, acquisition_field, scan_field, is_timer_enabled, interrupt_field}
 use Rattle.pmc330_model.specs.declared.Registers.{Registers}
@@ -85,17 +85,3 @@ pass_ticks r = if is_uniform r then pass_length r * interval r else 120 * pass_l
 -- the conversions of the schedule: single modes have one pass
 abbrev pub is_scheduled : Registers → (k : ℕ) → Bool
 is_scheduled r k = is_timed r && (not (is_single r) || nat_lt k (pass_length r))
-
--- a conversion, if any
-pub data Due : Type 0 where
-  none : Due
-  conversion : (k : ℕ) → Due
-
-abbrev pub or_else : Bool → (k : ℕ) → Due → Due
-or_else true k later = conversion k
-or_else false k later = later
-
--- the first of the n numbers from k on that passes the test
-unfoldable pub first_from : (test : ℕ → Bool) (n k : ℕ) → Due
-first_from test zero k = none
-first_from test (suc n) k = or_else (test k) k (first_from test n (suc k))

@@ -1,12 +1,12 @@
 -- The sentences of the data sheet; how long a channel waits is in Waiting.antt. Each `Every..` is proved in proofs/Sentences.antt, those
 -- of the next store in proofs/NextStores.antt, those of looks and clears in proofs/Looks.antt.
-use Rattle.std.specs.Prelude.{ℕ, suc, ◌+◌, ◌-◌, ◌*◌, ◌/◌, ◌%◌, ◌≤◌, ◌<◌, Bool, true, false, not, ◌&&◌, List, [], ◌∷◌, ◌++◌, ◌≡◌, length, set, replicate, ℤ, pos, Ok, Err, if◌then◌else◌, ◌==◌, nat_le}
+use Rattle.std.specs.Prelude.{ℕ, suc, ◌+◌, ◌-◌, ◌*◌, ◌/◌, ◌%◌, ◌≤◌, ◌<◌, Bool, true, false, not, ◌&&◌, List, [], ◌∷◌, ◌++◌, ◌≡◌, length, set, replicate, ℤ, pos, Some, Ok, Err, if◌then◌else◌, ◌==◌, nat_le}
 use Rattle.analog.specs.Answers.{Question, all_met, value_of, is_accepted}
 use Rattle.analog.specs.Sentences.{AnsweredBy}
 use Rattle.analog.specs.Sums.{sum_of}
 use Rattle.pmc330_model.specs.Map.{if_mailbox, class_of, trigger_field}
 use Rattle.pmc330_model.specs.Words.{bit_of, read_bytes, with_word, gains_with, is_release, is_stop, is_start}
-use Rattle.pmc330_model.specs.Schedule.{pass_length, is_burst, is_single, is_timed, is_trigger_only, channel_of, slot_of, ends_pass, code_at, begins_at, is_scheduled, conversion}
+use Rattle.pmc330_model.specs.Schedule.{pass_length, is_burst, is_single, is_timed, is_trigger_only, channel_of, slot_of, ends_pass, code_at, begins_at, is_scheduled}
 use Rattle.pmc330_model.specs.Calls.{Call, read, write, input, advance, trigger, reset, look, clear}
 use Rattle.pmc330_model.specs.Questions.{call_questions, resulting_word, has_channels, has_interval}
 use Rattle.pmc330_model.specs.Board.{board_call, new_call, new_board, read_call, advance_call, look_call, clear_call, view_of, request_line, next_store, board_after, answers_of}
@@ -85,9 +85,9 @@ pub record InCycle (l : Logbook) (T : ℕ) (triggers : List ℕ) : Type 0 where
   -- what is due at a tick, after a delay, is conversion k exactly when k is scheduled and T + its beginning + the delay is that tick
   pub found :
       (delay tick k : ℕ) → is_scheduled l.registers k ≡ true → T + begins_at l.registers k + delay ≡ tick
-      → due_after delay l.registers tick (since T triggers) ≡ conversion k
+      → due_after delay l.registers tick (since T triggers) ≡ Some k
   pub real :
-      (delay tick k : ℕ) → due_after delay l.registers tick (since T triggers) ≡ conversion k
+      (delay tick k : ℕ) → due_after delay l.registers tick (since T triggers) ≡ Some k
       → (is_scheduled l.registers k ≡ true) × (T + begins_at l.registers k + delay ≡ tick)
   -- no two conversions begin together, so that at most one is due
   pub one : (i k : ℕ) → begins_at l.registers i ≡ begins_at l.registers k → i ≡ k

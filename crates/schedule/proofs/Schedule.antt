@@ -94,7 +94,7 @@ module _ (p : Plan) where
 -- ---- the search
 
 module _ (test : ℕ → Bool) where
-  search_none : (n k : ℕ) → ((j : ℕ) → k ≤ j → test j ≡ false) → first_from test n k ≡ None
+  pub search_none : (n k : ℕ) → ((j : ℕ) → k ≤ j → test j ≡ false) → first_from test n k ≡ None
   unfolding first_from
   search_none zero k fail = refl
   search_none (suc n) k fail = rw (fail k (omega arith)) (search_none n (suc k) (λ j low. fail j (omega arith)))
