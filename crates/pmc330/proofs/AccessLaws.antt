@@ -33,7 +33,7 @@ with_unread b unread =
       unread = unread;
       pending = b.pending;
       registers = b.registers;
-      held = b.held;
+      taken = b.taken;
       cycle = b.cycle;
     }
 
@@ -81,10 +81,10 @@ module _ (b : Board) (bits at : ℕ) where
       -- 4, and then 5 and on
       pub write_asked :
           asked (questions_of b (write bits at value))
-          ≡ and_then (asked (question BadValue (ltb value (2 ^ bits_of a.width)) ∷ [])) (word_questions b.registers (not b.cycle.running) w.register w.word (with_word w.register w.word b.registers))
+          ≡ and_then (asked (question BadValue (ltb value (2 ^ bits_of a.width)) ∷ [])) (word_questions b.registers (not b.cycle.timer.running) w.register w.word (with_word w.register w.word b.registers))
       unfolding call_questions
       write_asked =
-          let idle : Bool = not b.cycle.running in
+          let idle : Bool = not b.cycle.timer.running in
           asked_then (access_questions bits at (class_of at)) _ is.met
           ∙ sym (ap₂ (λ (r : Register) (n : ℕ). asked (question BadValue (ltb value (2 ^ bits)) ∷ word_questions b.registers idle r n (with_word r n b.registers))) register_is word_is)
           ∙ sym (ap (λ (n : ℕ). asked (question BadValue (ltb value (2 ^ n)) ∷ word_questions b.registers idle w.register w.word (with_word w.register w.word b.registers))) is.width)

@@ -19,9 +19,9 @@ pub record Narrow (b : Board) : Type 0 where
   pub timer : b.registers.timer < 0x10000
   pub start : b.registers.start < 0x100
   pub end : b.registers.end < 0x100
-  pub held : b.held < 0x10000
+  pub taken : b.taken < 0x10000
   pub slot : b.cycle.slot < 0x100
-  pub index : b.cycle.index < 0x100
+  pub index : b.cycle.timer.index < 0x100
 
 -- and of its small record
 abbrev pub NarrowCore : Core → Type 0
@@ -33,9 +33,9 @@ flag_back false = refl
 
 pub words_back : (b : Board) → Narrow b → board_in (words_of b) b.inputs b.gains b.codes b.unread ≡ b
 words_back b n =
-    rw (mod-eq_of_lt n.range, mod-eq_of_lt n.held, flag_back b.pending)
+    rw (mod-eq_of_lt n.range, mod-eq_of_lt n.taken, flag_back b.pending)
     (rw (mod-eq_of_lt n.control, mod-eq_of_lt n.prescaler, mod-eq_of_lt n.timer, mod-eq_of_lt n.start, mod-eq_of_lt n.end, flag_back b.registers.enable)
-    (rw (mod-eq_of_lt n.slot, mod-eq_of_lt n.index, flag_back b.cycle.running, flag_back b.cycle.waiting, flag_back b.cycle.ends, flag_back b.cycle.odd)))
+    (rw (mod-eq_of_lt n.slot, mod-eq_of_lt n.index, flag_back b.cycle.timer.running, flag_back b.cycle.waiting, flag_back b.cycle.timer.ends, flag_back b.cycle.odd)))
 
 pub core_back : (c : Core) → NarrowCore c → core_in (words_with c) ≡ c
 core_back c n = ap core_of (words_back (board_with c [] [] [] []) n)

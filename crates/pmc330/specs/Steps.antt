@@ -1,9 +1,13 @@
 -- What the code's own steps promise. Nothing that a caller may cite stands here.
-use Rattle.std.specs.Prelude.{ℕ, ◌+◌, ◌-◌, ◌%◌, min, Bool, true, false, if◌then◌else◌, not, ◌&&◌, ◌||◌, List, [], ◌≡◌, ◌==◌, nat_le, ℤ, get_or, set}
+use Rattle.std.specs.Prelude.{ℕ, ◌+◌, ◌%◌, Bool, true, false, if◌then◌else◌, not, ◌&&◌, ◌||◌, List, [], ◌≡◌, nat_le, ℤ, get_or}
+use Rattle.schedule.specs.Timer.{idle_timer, begun_timer}
+use Rattle.schedule.specs.Scan.{scan}
+use Rattle.schedule.specs.Scan as schedule
 use Rattle.pmc330_model.specs.Words.{View}
 use Rattle.pmc330_model.specs.Lent.{flag_at, byte_at, half_at, registers_in, cycle_in, words_of}
-use Rattle.pmc330_model.specs.Schedule.{is_differential, is_single, code_at, formatted_by, is_interrupting}
-use Rattle.pmc330_model.specs.Board.{idle_cycle, lead_after, begun_cycle, stored_cycle, advanced, stores_in}
+use Rattle.pmc330_model.specs.Schedule.{is_differential, is_single, code_at, is_interrupting}
+use Rattle.pmc330_model.specs.Plan.{plan_of}
+use Rattle.pmc330_model.specs.Board.{idle_cycle, with_timer, advanced, stores_in}
 use Rattle.pmc330_model.specs.declared.Registers.{Registers}
 use Rattle.pmc330_model.specs.declared.Cycle.{Cycle}
 use Rattle.pmc330_model.specs.declared.Board.{Board}
@@ -25,11 +29,15 @@ board_of range r channels boxes s =
       unread = boxes.unread.now;
       pending = s.pending;
       registers = r;
-      held = s.held;
+      taken = s.taken;
       cycle = s.cycle;
     }
 
--- the same from the small record of a board and its arrays
+-- the same as a scan, whose timer stands in one place
+abbrev pub scan_on : (range : ℕ) → Registers → Channels → Mailboxes → Scan → schedule.Scan Board
+scan_on range r channels boxes s = scan s.cycle.timer (with_timer (board_of range r channels boxes s) idle_timer)
+
+-- a board from its small record and its arrays
 abbrev pub board_with : Core → (inputs : List ℤ) (gains codes unread : List ℕ) → Board
 board_with c inputs gains codes unread =
     record {
@@ -40,7 +48,7 @@ board_with c inputs gains codes unread =
       unread = unread;
       pending = c.pending;
       registers = c.registers;
-      held = c.held;
+      taken = c.taken;
       cycle = c.cycle;
     }
 
@@ -65,12 +73,12 @@ core_in words =
       range = byte_at words 0;
       registers = registers_in words;
       pending = flag_at words 7;
-      held = half_at words 8;
+      taken = half_at words 8;
       cycle = cycle_in words;
     }
 
 abbrev pub core_of : Board → Core
-core_of b = record { range = b.range; registers = b.registers; pending = b.pending; held = b.held; cycle = b.cycle }
+core_of b = record { range = b.range; registers = b.registers; pending = b.pending; taken = b.taken; cycle = b.cycle }
 
 abbrev pub words_with : Core → List ℕ
 words_with c = words_of (board_with c [] [] [] [])
@@ -89,16 +97,8 @@ view_in r pending gains codes unread =
 
 -- ---- the plan of a scan
 
-abbrev pub plan_of : Registers → Plan
-plan_of r =
-    record {
-      start = r.start;
-      last_place = r.end - r.start;
-      step = lead_after r false;
-      last_step = lead_after r true;
-      single = is_single r;
-      differential = is_differential r;
-    }
+abbrev pub scan_plan : Registers → Plan
+scan_plan r = record { start = r.start; differential = is_differential r; times = plan_of r }
 
 abbrev pub slot_by : Plan → (index : ℕ) (odd : Bool) → ℕ
 slot_by p index odd = (p.start + index + (if p.differential && odd then 16 else 0)) % 32
@@ -106,50 +106,24 @@ slot_by p index odd = (p.start + index + (if p.differential && odd then 16 else 
 -- the cycle after a beginning, and after a store, by the plan
 abbrev pub begun_by : Plan → Cycle → Cycle
 begun_by p c =
-    let ends : Bool = nat_le p.last_place c.index in
-    record c {
-      lead = if ends then p.last_step else p.step;
-      lag = 64;
+    record {
+      timer = begun_timer p.times c.timer;
       waiting = true;
-      slot = slot_by p c.index c.odd;
-      ends = ends;
-      index = if ends then 0 else c.index + 1;
-      odd = if ends then not c.odd else c.odd;
+      slot = slot_by p c.timer.index c.odd;
+      odd = if nat_le p.times.last c.timer.index then not c.odd else c.odd;
     }
 
 abbrev pub stored_by : Plan → Cycle → Cycle
-stored_by p c = if p.single && c.ends then idle_cycle else record c { waiting = false }
+stored_by p c = if p.times.single && c.timer.ends then idle_cycle else record c { waiting = false }
 
 -- ---- events
-
--- a beginning
-abbrev pub begun_scan : (range : ℕ) → Registers → (gains : List ℕ) (inputs : List ℤ) → Scan → Scan
-begun_scan range r gains inputs s =
-    record s {
-      held = code_at range r gains inputs ((r.start + s.cycle.index) % 32);
-      cycle = begun_cycle r s.cycle;
-    }
-
--- a store in time, but for the mailboxes
-abbrev pub stored_scan : Registers → Scan → Scan
-stored_scan r s =
-    record s {
-      pending = s.pending || is_interrupting r s.cycle.ends;
-      cycle = stored_cycle r s.cycle;
-    }
-
-abbrev pub stored_codes : Registers → Scan → (codes : List ℕ) → List ℕ
-stored_codes r s codes = set codes (s.cycle.slot % 32) (formatted_by r s.held)
-
-abbrev pub stored_unread : Scan → (unread : List ℕ) → List ℕ
-stored_unread s unread = set unread (s.cycle.slot % 32) (min 2 (get_or unread (s.cycle.slot % 32) 0 + 1))
 
 -- a beginning and a store outside an advance: the small record after them
 abbrev pub begun_core : Core → (inputs : List ℤ) (gains : List ℕ) → Core
 begun_core c inputs gains =
     record c {
-      held = code_at c.range c.registers gains inputs ((c.registers.start + c.cycle.index) % 32);
-      cycle = begun_cycle c.registers c.cycle;
+      taken = code_at c.range c.registers gains inputs ((c.registers.start + c.cycle.timer.index) % 32);
+      cycle = begun_by (scan_plan c.registers) c.cycle;
     }
 
 abbrev pub stored_core : Core → (ends : Bool) → Core
@@ -165,10 +139,6 @@ pub record Unmoved (before after : Mailboxes) : Type 0 where
 pub record Kept (before after : Mailboxes) : Type 0 where
   pub loan : SameLoan before after
   pub unchanged : after.changed ≡ false → Unmoved before after
-
--- the ticks to the end of a countdown, if one runs, and at most `left`
-abbrev pub step_to : (count left : ℕ) → ℕ
-step_to count left = if count == 0 then left else min count left
 
 -- a run of n ticks on a board whose arrays are lent: the board after them, and the stores made in them
 pub record RunOf (n : ℕ) (core : Core) (channels : Channels) (boxes : Mailboxes) (run : Run) (after : Mailboxes) : Type 0 where

@@ -1,8 +1,8 @@
 //! The steps of a cycle: a conversion begins, and is stored.
 ghost use Rattle.std.specs.Prelude.{◌≡◌, ◌+◌, ◌%◌, ◌<◌};
 ghost use Rattle.pmc330_model.specs.Schedule.{voltage_at, code_at};
-ghost use Rattle.pmc330_model.specs.Board.{lead_after};
-ghost use Rattle.pmc330.specs.Steps.{plan_of, slot_by, begun_by, stored_by};
+ghost use Rattle.pmc330_model.specs.Plan.{step_of};
+ghost use Rattle.pmc330.specs.Steps.{scan_plan, slot_by, begun_by, stored_by};
 
 use crate::fields;
 use crate::fields::Acquisition;
@@ -21,13 +21,8 @@ pub struct Channels<'a> {
 #[derive(Clone, Copy)]
 pub struct Plan {
     pub start: u8,
-    /// the place of a pass's last conversion
-    pub last_place: u8,
-    /// ticks from a beginning to the next one, within a pass and at its end; 0 for none, as in the cycle's `lead` that they become
-    pub step: u32,
-    pub last_step: u32,
-    pub single: bool,
     pub differential: bool,
+    pub times: schedule::Plan,
 }
 
 /// What changes of a board as time passes, but for its mailboxes.
@@ -37,42 +32,46 @@ pub struct Plan {
 pub struct Scan {
     pub pending: bool,
     /// the straight code last taken
-    pub held: u16,
+    pub taken: u16,
     pub cycle: Cycle,
 }
 
-// The ticks from a beginning to the next one.
-fn lead_after(r: Registers, ends: bool) -> u32
-    ensures { result ≡ lead_after r ends }
+// The ticks from a beginning to the next one, within a pass.
+fn step_of(r: Registers) -> u32
+    ensures { result ≡ step_of r }
 {
-    if !fields::is_timed(r) || fields::is_single(r) && ends {
-        0
-    } else if fields::is_uniform(r) {
+    if fields::is_uniform(r) {
         fields::interval_of(r)
-    } else if ends {
-        120 + fields::burst_delay(r)
-    } else {
+    } else if fields::is_burst(r) {
         120
+    } else {
+        0
     }
 }
 
 impl From<Registers> for Plan {
-    ghost from_gives = { λ r plan. plan ≡ plan_of r };
+    ghost from_gives = { λ r plan. plan ≡ scan_plan r };
 
     fn from(r: Registers) -> Plan {
+        let step = step_of(r);
         Plan {
             start: r.start,
-            last_place: r.end.saturating_sub(r.start),
-            step: lead_after(r, false),
-            last_step: lead_after(r, true),
-            single: fields::is_single(r),
             differential: fields::is_differential(r),
+            times: schedule::Plan {
+                last: r.end.saturating_sub(r.start),
+                first: if fields::is_uniform(r) { step } else { 0 },
+                step,
+                turn: step + fields::burst_delay(r),
+                single: fields::is_single(r),
+                delay: 64,
+            },
         }
     }
 }
 
 impl Plan {
     // The slot of the conversion at a place of its pass.
+    #[inline(always)]
     fn slot_at(self, index: u8, odd: bool) -> u8
         ensures { result ≡ slot_by self index odd }
     {
@@ -81,27 +80,25 @@ impl Plan {
     }
 
     // The cycle after the next conversion has begun.
+    #[inline(always)]
     pub(crate) fn begun_cycle(self, c: Cycle) -> Cycle
         ensures { result ≡ begun_by self c }
     {
-        let ends = self.last_place <= c.index;
+        let timer = c.timer.begun(self.times);
         Cycle {
-            lead: if ends { self.last_step } else { self.step },
-            lag: 64,
+            timer,
             waiting: true,
-            slot: self.slot_at(c.index, c.odd),
-            ends,
-            index: if ends { 0 } else { c.index + 1 },
-            odd: c.odd != ends,
-            ..c
+            slot: self.slot_at(c.timer.index, c.odd),
+            odd: c.odd != timer.ends,
         }
     }
 
     // The cycle after its conversion in progress is stored.
+    #[inline(always)]
     pub(crate) fn stored_cycle(self, c: Cycle) -> Cycle
         ensures { result ≡ stored_by self c }
     {
-        if self.single && c.ends {
+        if self.times.single && c.timer.ends {
             Cycle::default()
         } else {
             Cycle {

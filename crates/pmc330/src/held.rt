@@ -5,6 +5,7 @@ ghost use Rattle.pmc330_model.specs.Lent.{registers_in, cycle_in};
 ghost use Rattle.pmc330.specs.Steps.{core_in, core_of, words_with};
 
 use pmc330_model::{Board, Cycle, Registers};
+use schedule::Timer;
 
 /// The small record of a board.
 // Passed by value: a Board would take its arrays along at each step, and with this as a field of it each definition of the model
@@ -15,7 +16,7 @@ pub struct Core {
     pub registers: Registers,
     pub pending: bool,
     /// the straight code last taken
-    pub held: u16,
+    pub taken: u16,
     pub cycle: Cycle,
 }
 
@@ -36,13 +37,15 @@ fn cycle_of(words: &[u32; 17]) -> Cycle
     ensures { result ≡ cycle_in words.now }
 {
     Cycle {
-        running: words[9] != 0,
-        lead: words[10],
-        lag: words[11],
+        timer: Timer {
+            running: words[9] != 0,
+            lead: words[10],
+            lag: words[11],
+            ends: words[14] != 0,
+            index: (words[15] % 0x100) as u8,
+        },
         waiting: words[12] != 0,
         slot: (words[13] % 0x100) as u8,
-        ends: words[14] != 0,
-        index: (words[15] % 0x100) as u8,
         odd: words[16] != 0,
     }
 }
@@ -56,7 +59,7 @@ impl From<&[u32; 17]> for Core {
             range: (words[0] % 0x100) as u8,
             registers: registers_of(words),
             pending: words[7] != 0,
-            held: (words[8] % 0x10000) as u16,
+            taken: (words[8] % 0x10000) as u16,
             cycle: cycle_of(words),
         }
     }
@@ -71,7 +74,7 @@ impl From<Board> for Core {
             range: b.range,
             registers: b.registers,
             pending: b.pending,
-            held: b.held,
+            taken: b.taken,
             cycle: b.cycle,
         }
     }
@@ -93,14 +96,14 @@ impl From<Core> for [u32; 17] {
             u32::from(r.start),
             u32::from(r.end),
             u32::from(core.pending),
-            u32::from(core.held),
-            u32::from(c.running),
-            c.lead,
-            c.lag,
+            u32::from(core.taken),
+            u32::from(c.timer.running),
+            c.timer.lead,
+            c.timer.lag,
             u32::from(c.waiting),
             u32::from(c.slot),
-            u32::from(c.ends),
-            u32::from(c.index),
+            u32::from(c.timer.ends),
+            u32::from(c.timer.index),
             u32::from(c.odd),
         ]
     }

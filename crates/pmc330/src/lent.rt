@@ -124,7 +124,7 @@ pub fn write(
     let r = core.registers;
     let write = access.word_write(r, gains, value);
     questions::of_value(access.width, value)?;
-    let idle = !core.cycle.running;
+    let idle = !core.cycle.timer.running;
     questions::of_word(r, idle, write)?;
     let next = after_write(core, inputs, gains, unread, write);
     *words = next.into();

@@ -63,7 +63,7 @@ impl From<&Parts> for Board {
             unread: p.unread,
             pending: core.pending,
             registers: core.registers,
-            held: core.held,
+            taken: core.taken,
             cycle: core.cycle,
         }
     }

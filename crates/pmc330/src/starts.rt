@@ -1,6 +1,6 @@
 //! A cycle begins, by Start Convert or by a trigger. Core, channels and boxes are three parameters, as in `time`.
 ghost use Rattle.std.specs.Prelude.{◌&&◌, cond, List, ◌≡◌, ℕ, ◌+◌, ◌%◌, min, eqb, get_or, set};
-ghost use Rattle.pmc330_model.specs.Schedule.{interval, is_uniform, is_timed, is_trigger_only, formatted_by};
+ghost use Rattle.pmc330_model.specs.Schedule.{is_timed, is_trigger_only, formatted_by};
 ghost use Rattle.pmc330_model.specs.Questions.{has_channels, has_interval};
 ghost use Rattle.pmc330_model.specs.Board.{fresh_cycle, started, trigger_taken, armed_by_trigger, triggered};
 ghost use Rattle.pmc330.specs.Steps.{board_with, begun_core, stored_core, SameLoan, Becomes};
@@ -10,6 +10,7 @@ use crate::held::Core;
 use crate::stores::Mailboxes;
 use crate::{fields, questions, stores};
 use pmc330_model::{Cycle, Registers};
+use schedule::Timer;
 
 // The next conversion begins. This and `stored` stand beside the steps of a `Scan`, which is smaller for speed.
 fn begun(core: Core, channels: Channels) -> Core
@@ -18,7 +19,7 @@ fn begun(core: Core, channels: Channels) -> Core
     let r = core.registers;
     let c = core.cycle;
     Core {
-        held: channels.taken_code(core.range, r, c.index),
+        taken: channels.taken_code(core.range, r, c.timer.index),
         cycle: Plan::from(r).begun_cycle(c),
         ..core
     }
@@ -27,12 +28,12 @@ fn begun(core: Core, channels: Channels) -> Core
 // The code last taken goes into a slot.
 fn stored(core: Core, boxes: &mut Mailboxes, slot: u8, ends: bool) -> Core
     ensures core { result ≡ stored_core core ends }
-    ensures codes { boxes.new.codes.now ≡ set boxes.old.codes.now (slot % 32) (formatted_by core.registers core.held) }
+    ensures codes { boxes.new.codes.now ≡ set boxes.old.codes.now (slot % 32) (formatted_by core.registers core.taken) }
     ensures unread { boxes.new.unread.now ≡ set boxes.old.unread.now (slot % 32) (min 2 (get_or boxes.old.unread.now (slot % 32) 0 + 1)) }
     ensures loan { SameLoan boxes.old boxes.new }
 {
     let r = core.registers;
-    boxes.put(slot, stores::formatted_by(r, core.held));
+    boxes.put(slot, stores::formatted_by(r, core.taken));
     Core {
         pending: core.pending || fields::is_interrupting(r, ends),
         ..core
@@ -44,18 +45,13 @@ fn fresh_cycle(r: Registers) -> Cycle
     ensures { result ≡ fresh_cycle r }
 {
     Cycle {
-        running: true,
-        lead: if fields::is_uniform(r) {
-            fields::interval_of(r)
-        } else {
-            0
-        },
+        timer: Timer::started(Plan::from(r).times),
         ..Cycle::default()
     }
 }
 
 // A cycle starts: all New and Missed bits clear. The codes stay, whatever they are.
-#[tactic(auto, unfolding(pmc330_model::specs::Board::started, pmc330_model::specs::Board::begun))]
+#[tactic(auto, unfolding(pmc330_model::specs::Board::started, pmc330_model::specs::Board::code_taken))]
 pub(crate) fn started(core: Core, channels: Channels, unread: &mut [u8; 32]) -> Core
     ensures { (codes : List ℕ) → board_with result channels.entry.inputs.now channels.entry.gains.now codes unread.new ≡ started (board_with core channels.entry.inputs.now channels.entry.gains.now codes unread.old) }
 {
@@ -71,13 +67,13 @@ pub(crate) fn started(core: Core, channels: Channels, unread: &mut [u8; 32]) -> 
 }
 
 // A trigger that is taken: its store first, then its code.
-#[tactic(auto, unfolding(pmc330_model::specs::Board::begun, pmc330_model::specs::Board::stored))]
+#[tactic(auto, unfolding(pmc330_model::specs::Board::code_taken, pmc330_model::specs::Board::stored))]
 fn taken(core: Core, channels: Channels, boxes: &mut Mailboxes) -> Core
     ensures { Becomes trigger_taken core channels.entry boxes.old result boxes.new }
 {
     let c = core.cycle;
     if c.waiting {
-        let s = stored(core, boxes, c.slot, c.ends);
+        let s = stored(core, boxes, c.slot, c.timer.ends);
         return begun(s, channels);
     }
     begun(core, channels)
@@ -85,9 +81,9 @@ fn taken(core: Core, channels: Channels, boxes: &mut Mailboxes) -> Core
 
 // A trigger on a running board.
 fn triggered_running(core: Core, channels: Channels, boxes: &mut Mailboxes) -> Core
-    ensures { Becomes (λ b. cond (is_trigger_only b.registers && eqb b.cycle.lag 0) (trigger_taken b) b) core channels.entry boxes.old result boxes.new }
+    ensures { Becomes (λ b. cond (is_trigger_only b.registers && eqb b.cycle.timer.lag 0) (trigger_taken b) b) core channels.entry boxes.old result boxes.new }
 {
-    if fields::is_trigger_only(core.registers) && core.cycle.lag == 0 {
+    if fields::is_trigger_only(core.registers) && core.cycle.timer.lag == 0 {
         return taken(core, channels, boxes);
     }
     core
@@ -95,7 +91,7 @@ fn triggered_running(core: Core, channels: Channels, boxes: &mut Mailboxes) -> C
 
 // A trigger on an idle board in external trigger only, ignored if question 9 is not met: the code last taken goes into
 // the Start Channel's slot, then the armed cycle takes its first.
-#[tactic(auto, unfolding(pmc330_model::specs::Board::begun, pmc330_model::specs::Board::stored))]
+#[tactic(auto, unfolding(pmc330_model::specs::Board::code_taken, pmc330_model::specs::Board::stored))]
 fn triggered_unarmed(core: Core, channels: Channels, boxes: &mut Mailboxes) -> Core
     ensures { Becomes (λ b. cond (has_channels b.registers) (armed_by_trigger b) b) core channels.entry boxes.old result boxes.new }
 {
@@ -131,7 +127,7 @@ pub(crate) fn triggered(core: Core, channels: Channels, boxes: &mut Mailboxes) -
     if !fields::takes_triggers(r) {
         return core;
     }
-    if core.cycle.running {
+    if core.cycle.timer.running {
         return triggered_running(core, channels, boxes);
     }
     if fields::is_trigger_only(r) {

@@ -1,9 +1,12 @@
 //! A store: the code goes into its mailbox and is counted.
-ghost use Rattle.std.specs.Prelude.{cond, false, ◌≡◌, ◌+◌, ◌%◌, min, get_or, set};
+ghost use Rattle.std.specs.Prelude.{◌≡◌, ◌+◌, ◌%◌, min, get_or, set};
 ghost use Rattle.pmc330_model.specs.Schedule.{formatted_by};
-ghost use Rattle.pmc330.specs.Steps.{stored_scan, stored_codes, stored_unread, Kept};
+ghost use Rattle.schedule.specs.Scan.{store_if};
+ghost use Rattle.pmc330_model.specs.Plan.{plan_of};
+ghost use Rattle.pmc330_model.specs.Board.{board_effects};
+ghost use Rattle.pmc330.specs.Steps.{scan_on, Kept};
 
-use crate::cycle::Scan;
+use crate::cycle::{Channels, Scan};
 use crate::fields;
 use crate::running::Running;
 use pmc330_model::Registers;
@@ -40,6 +43,7 @@ impl<'a> Mailboxes<'a> {
     }
 
     // The code into the mailbox of a slot. The count stands still at 2.
+    #[inline(always)]
     pub(crate) fn put(&mut self, slot: u8, code: u16)
         ensures codes { self.new.codes.now ≡ set self.old.codes.now (slot % 32) code }
         ensures unread { self.new.unread.now ≡ set self.old.unread.now (slot % 32) (min 2 (get_or self.old.unread.now (slot % 32) 0 + 1)) }
@@ -55,10 +59,10 @@ impl<'a> Mailboxes<'a> {
     }
 
     // The conversion in progress is stored if it is due.
+    #[tactic(auto, unfolding(pmc330_model::specs::Board::stored))]
+    #[inline(always)]
     pub(crate) fn store_if_due(&mut self, due: bool, running: Running, s: Scan) -> Scan
-        ensures scan { result ≡ cond due (stored_scan running.registers s) s }
-        ensures codes { self.new.codes.now ≡ cond due (stored_codes running.registers s self.old.codes.now) self.old.codes.now }
-        ensures unread { self.new.unread.now ≡ cond due (stored_unread s self.old.unread.now) self.old.unread.now }
+        ensures scan { (channels : Channels) → scan_on running.range running.registers channels self.new result ≡ store_if (plan_of running.registers) board_effects due (scan_on running.range running.registers channels self.old s) }
         ensures kept { Kept self.old self.new }
     {
         if !due {
@@ -66,9 +70,9 @@ impl<'a> Mailboxes<'a> {
         }
         let c = s.cycle;
         let r = running.registers;
-        self.put(c.slot, formatted_by(r, s.held));
+        self.put(c.slot, formatted_by(r, s.taken));
         Scan {
-            pending: s.pending || fields::is_interrupting(r, c.ends),
+            pending: s.pending || fields::is_interrupting(r, c.timer.ends),
             cycle: running.plan.stored_cycle(c),
             ..s
         }

@@ -1,14 +1,15 @@
 //! Time passes: from event to event, and over whole repeats once the board comes back to itself.
 ghost use Rattle.std.specs.Prelude.{◌&&◌, true, false, ◌≡◌, ◌≤◌, ◌<◌};
 ghost use Rattle.pmc330_model.specs.Schedule.{is_timed};
-ghost use Rattle.pmc330.specs.Steps.{step_to, Unmoved, RunOf, turned_core, IgnoresParity};
+ghost use Rattle.schedule.specs.Timer.{step_to};
+ghost use Rattle.pmc330.specs.Steps.{Unmoved, RunOf, turned_core, IgnoresParity};
 
 use crate::cycle::{Channels, Scan};
+use crate::fields;
 use crate::fields::ScanMode;
 use crate::held::Core;
 use crate::running::Running;
 use crate::stores::Mailboxes;
-use crate::{fields, running};
 use pmc330_model::{Cycle, Registers};
 
 /// A board after some ticks, but for its arrays, and the stores made in them.
@@ -19,6 +20,7 @@ pub struct Run {
 }
 
 // The ticks to the end of a countdown, if one runs, and at most `left`.
+#[inline(always)]
 fn nearer(count: u32, left: u32) -> u32
     ensures { result ≡ step_to count left }
 {
@@ -28,24 +30,30 @@ fn nearer(count: u32, left: u32) -> u32
 impl Core {
     // Whether a cycle runs in a mode in time: no other board makes a store by itself.
     pub(crate) fn is_in_time(self) -> bool
-        ensures { result ≡ (self.cycle.running && is_timed self.registers) }
+        ensures { result ≡ (self.cycle.timer.running && is_timed self.registers) }
     {
-        self.cycle.running && fields::is_timed(self.registers)
+        self.cycle.timer.running && fields::is_timed(self.registers)
     }
 
     // Time passes on a board with no cycle in time. Its arrays stay, whatever they are.
     #[tactic(auto, using(pmc330_model::proofs::Jumps::idle_board, pmc330_model::proofs::Jumps::idle_stores, pmc330_model::proofs::Jumps::untimed_board, pmc330_model::proofs::Jumps::untimed_stores))]
     fn waited(self, ticks: u32) -> Run
-        requires { (self.cycle.running && is_timed self.registers) ≡ false }
+        requires { (self.cycle.timer.running && is_timed self.registers) ≡ false }
         ensures { (channels : Channels) (boxes : Mailboxes) → RunOf ticks self channels boxes result boxes }
     {
-        let cycle = if self.cycle.running {
-            running::elapsed_by(self.cycle, ticks)
+        let timer = if self.cycle.timer.running {
+            self.cycle.timer.elapsed(ticks)
         } else {
-            self.cycle
+            self.cycle.timer
         };
         Run {
-            core: Core { cycle, ..self },
+            core: Core {
+                cycle: Cycle {
+                    timer,
+                    ..self.cycle
+                },
+                ..self
+            },
             stores: 0,
         }
     }
@@ -76,22 +84,28 @@ fn run_any(core: Core, channels: Channels, boxes: &mut Mailboxes, ticks: u32) ->
     let running = Running::of(core.range, core.registers);
     let mut s = Scan {
         pending: core.pending,
-        held: core.held,
+        taken: core.taken,
         cycle: core.cycle,
     };
     let mut left = ticks;
     let mut made: u32 = 0;
-    while 0 < left {
-        let c = s.cycle;
-        let n = nearer(c.lead, nearer(c.lag, left));
-        made += u32::from(c.lag == n);
-        s = running.jump(channels, boxes, s, n);
-        left -= n;
+    while 0 < left && s.cycle.timer.running {
+        let t = s.cycle.timer;
+        if schedule::converts(running.plan.times, left, t) {
+            left -= t.lead;
+            made += 1;
+            s = running.convert(channels, boxes, s);
+        } else {
+            let n = nearer(t.lead, nearer(t.lag, left));
+            made += u32::from(t.lag == n);
+            s = running.jump(channels, boxes, s, n);
+            left -= n;
+        }
     }
     Run {
         core: Core {
             pending: s.pending,
-            held: s.held,
+            taken: s.taken,
             cycle: s.cycle,
             ..core
         },
@@ -123,8 +137,8 @@ fn part_of(core: Core, left: u32, span: u32) -> u32
     ensures most { result ≤ left }
     ensures some { 0 < left → 0 < result }
 {
-    let c = core.cycle;
-    span.max(nearer(c.lead, nearer(c.lag, left))).min(left)
+    let t = core.cycle.timer;
+    span.max(nearer(t.lead, nearer(t.lag, left))).min(left)
 }
 
 // The span: a pass if its parity is ignored, else two; all ticks if nothing repeats or two passes do not fit.

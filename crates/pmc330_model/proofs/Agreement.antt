@@ -6,16 +6,18 @@ use mathlib.Core.Logic.{◌⊎◌}
 use mathlib.Core.Path.{◌≡◌}
 use Prim.Native.Nat.{ℕ, suc, ◌+◌, ◌-◌, ◌%◌, ◌≤◌, ◌<◌, min}
 use lib.ListN.{get_or, length}
+use Rattle.schedule.specs.Standing.{Standing}
 use Rattle.pmc330_model.specs.Map.{scan_field}
-use Rattle.pmc330_model.specs.Schedule.{pass_length, interval, is_differential, is_uniform, is_timed, is_trigger_only, in_odd_pass, slot_of, ends_pass, begins_at, is_scheduled}
+use Rattle.pmc330_model.specs.Schedule.{pass_length, interval, is_differential, is_uniform, is_timed, is_trigger_only, in_odd_pass, slot_of, ends_pass}
+use Rattle.pmc330_model.specs.Plan.{plan_of}
 use Rattle.pmc330_model.specs.Board.{idle_cycle}
-use Rattle.pmc330_model.specs.Logbook.{Event, Running, idle, since, Logbook, last_store, stores_since, interrupted, stores_made}
+use Rattle.pmc330_model.specs.Logbook.{Event, CycleSince, idle, since, Logbook, last_store, stores_since, interrupted, stores_made}
 use Rattle.pmc330_model.specs.declared.Registers.{Registers}
 use Rattle.pmc330_model.specs.declared.Cycle.{Cycle}
 use Rattle.pmc330_model.specs.declared.Board.{Board}
 
 -- the logbook of a board: what the board holds, with a tick, a running cycle and events
-abbrev pub book_of : Board → (tick : ℕ) → Running → List Event → Logbook
+abbrev pub book_of : Board → (tick : ℕ) → CycleSince → List Event → Logbook
 book_of b tick cycle events =
     record {
       range = b.range;
@@ -23,7 +25,7 @@ book_of b tick cycle events =
       gains = b.gains;
       inputs = b.inputs;
       tick = tick;
-      taken = b.held;
+      taken = b.taken;
       cycle = cycle;
       events = events;
     }
@@ -50,85 +52,60 @@ pub record Startable (r : Registers) : Type 0 where
   pub half : is_differential r ≡ true → r.end ≤ 15
   pub slow : is_uniform r ≡ true → 64 ≤ interval r
 
--- a conversion that began and is not stored yet
-pub record InFlight (r : Registers) (T tick k : ℕ) (c : Cycle) : Type 0 where
-  pub j : ℕ
-  pub last : k ≡ suc j
-  pub scheduled : is_scheduled r j ≡ true
-  pub some : 0 < c.lag
-  pub most : c.lag ≤ 64
-  pub due : T + begins_at r j + 64 ≡ tick + c.lag
-  pub slot : c.slot ≡ slot_of r j
-  pub ends : c.ends ≡ ends_pass r j
-
--- no conversion is in progress: all that began were stored
-pub record AllStored (r : Registers) (T tick k : ℕ) (c : Cycle) : Type 0 where
-  pub none : c.lag ≡ 0
-  pub past : (i : ℕ) → i < k → T + begins_at r i + 64 ≤ tick
-
--- conversion k is to come, or the schedule has no more
-pub record ToCome (r : Registers) (T tick k : ℕ) (c : Cycle) : Type 0 where
-  pub scheduled : is_scheduled r k ≡ true
-  pub some : 0 < c.lead
-  pub due : T + begins_at r k ≡ tick + c.lead
-
-pub record NoMore (r : Registers) (k : ℕ) (c : Cycle) : Type 0 where
-  pub unscheduled : is_scheduled r k ≡ false
-  pub none : c.lead ≡ 0
+-- conversion k is next: its pass has that parity, and the conversion before it, if any, that slot
+pub record NextIs (r : Registers) (k : ℕ) (odd : Bool) (slot : ℕ) : Type 0 where
+  pub parity : odd ≡ in_odd_pass r k
+  pub before : (j : ℕ) → k ≡ suc j → slot ≡ slot_of r j
 
 -- a cycle in time: k is the next conversion
 pub record Timed (r : Registers) (T tick : ℕ) (c : Cycle) : Type 0 where
   pub k : ℕ
   pub timed : is_timed r ≡ true
-  pub running : c.running ≡ true
-  pub index : c.index ≡ k % pass_length r
-  pub odd : c.odd ≡ in_odd_pass r k
-  pub next : ToCome r T tick k c ⊎ NoMore r k c
-  pub flight : InFlight r T tick k c ⊎ AllStored r T tick k c
+  pub stands : Standing (plan_of r) T tick k c.timer
+  pub next : NextIs r k c.odd c.slot
 
 -- the conversion of the last taken trigger waits for the next one
-pub record Waiting (r : Registers) (tick : ℕ) (triggers : List ℕ) (c : Cycle) : Type 0 where
+pub record TriggerTaken (r : Registers) (tick : ℕ) (triggers : List ℕ) (c : Cycle) : Type 0 where
   pub last : ℕ
   pub earlier : List ℕ
   pub are : triggers ≡ (last ∷ earlier)
   pub waiting : c.waiting ≡ true
-  pub lag : c.lag ≡ last + 64 - tick
+  pub lag : c.timer.lag ≡ last + 64 - tick
   pub taken : last ≤ tick
-  pub slot : c.slot ≡ slot_of r (length earlier)
-  pub ends : c.ends ≡ ends_pass r (length earlier)
+  pub ends : c.timer.ends ≡ ends_pass r (length earlier)
 
 pub record Untriggered (triggers : List ℕ) (c : Cycle) : Type 0 where
   pub are : triggers ≡ []
   pub waiting : c.waiting ≡ false
-  pub lag : c.lag ≡ 0
+  pub lag : c.timer.lag ≡ 0
 
 -- an armed cycle: the next conversion's number is that of the triggers taken
 pub record Armed (r : Registers) (tick : ℕ) (triggers : List ℕ) (c : Cycle) : Type 0 where
   pub timed : is_timed r ≡ false
   pub trigger_only : is_trigger_only r ≡ true
-  pub running : c.running ≡ true
-  pub index : c.index ≡ length triggers % pass_length r
-  pub odd : c.odd ≡ in_odd_pass r (length triggers)
-  pub flight : Waiting r tick triggers c ⊎ Untriggered triggers c
+  pub running : c.timer.running ≡ true
+  pub index : c.timer.index ≡ length triggers % pass_length r
+  pub next : NextIs r (length triggers) c.odd c.slot
+  pub flight : TriggerTaken r tick triggers c ⊎ Untriggered triggers c
 
 pub record RunningAgrees (r : Registers) (T tick : ℕ) (triggers : List ℕ) (c : Cycle) : Type 0 where
   pub startable : Startable r
   pub mode : Timed r T tick c ⊎ Armed r tick triggers c
 
-abbrev pub CycleAgrees : Registers → (tick : ℕ) → Running → Cycle → Type 0
+abbrev pub CycleAgrees : Registers → (tick : ℕ) → CycleSince → Cycle → Type 0
 CycleAgrees r tick idle c = c ≡ idle_cycle
 CycleAgrees r tick (since T triggers) c = RunningAgrees r T tick triggers c
 
-pub record Agrees (b : Board) (tick : ℕ) (cycle : Running) (events : List Event) : Type 0 where
+pub record Agrees (b : Board) (tick : ℕ) (cycle : CycleSince) (events : List Event) : Type 0 where
   pub memory : Memory events b.codes b.unread b.pending
-  pub held : b.held < 65536
+  pub taken : b.taken < 65536
   pub limits : Limits b.registers
   pub running : CycleAgrees b.registers tick cycle b.cycle
 
 -- a logbook agrees with a board
 pub record Related (l : Logbook) (b : Board) : Type 0 where
   pub tick : ℕ
-  pub cycle : Running
+  pub cycle : CycleSince
   pub events : List Event
   pub same : l ≡ book_of b tick cycle events
   pub agrees : Agrees b tick cycle events
@@ -136,7 +113,7 @@ pub record Related (l : Logbook) (b : Board) : Type 0 where
 -- a logbook agrees with a board after some more stores
 pub record Moved (l : Logbook) (b : Board) (made : ℕ) (before : List Event) : Type 0 where
   pub tick : ℕ
-  pub cycle : Running
+  pub cycle : CycleSince
   pub events : List Event
   pub same : l ≡ book_of b tick cycle events
   pub agrees : Agrees b tick cycle events

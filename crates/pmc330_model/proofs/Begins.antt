@@ -3,47 +3,41 @@ use mathlib.Core.Bool.{Bool, not, cond}
 use mathlib.Core.List.{List}
 use mathlib.Core.Path.{◌≡◌, ap, ◌∙◌}
 use Prim.Native.Nat.{ℕ, suc, ◌+◌, ◌%◌, ◌<◌}
+use Rattle.schedule.proofs.Standing.{begun_ends}
 use Rattle.analog.proofs.Bounds.{code_below}
-use Rattle.pmc330_model.specs.Schedule.{pass_length, in_odd_pass, slot_of, ends_pass, voltage_at}
-use Rattle.pmc330_model.specs.Board.{begun, lead_after}
-use Rattle.pmc330_model.specs.Logbook.{Event, Running, begins}
+use Rattle.pmc330_model.specs.Schedule.{pass_length, slot_of, voltage_at}
+use Rattle.pmc330_model.specs.Plan.{plan_of}
+use Rattle.pmc330_model.specs.Board.{code_taken, begun}
+use Rattle.pmc330_model.specs.Logbook.{Event, CycleSince, begins}
 use Rattle.pmc330_model.specs.declared.Board.{Board}
-use Rattle.pmc330_model.proofs.Agreement.{Startable, book_of}
-use Rattle.pmc330_model.proofs.Due.{ends_here, index_next, parity_next}
+use Rattle.pmc330_model.proofs.Agreement.{Startable, book_of, NextIs}
+use Rattle.pmc330_model.proofs.Due.{parity_next}
 use native.Mathlib.Omega.{arith}
 
-module _ (b : Board) (startable : Startable b.registers) (k : ℕ) (index : b.cycle.index ≡ k % pass_length b.registers) where
+module _ (b : Board) (startable : Startable b.registers) (k : ℕ) (index : b.cycle.timer.index ≡ k % pass_length b.registers) where
   -- the logbook with conversion k's code is that of the board that has begun it
-  pub begins_is : (tick : ℕ) (cycle : Running) (events : List Event) → begins k (book_of b tick cycle events) ≡ book_of (begun b) tick cycle events
-  unfolding begun
+  pub begins_is : (tick : ℕ) (cycle : CycleSince) (events : List Event) → begins k (book_of b tick cycle events) ≡ book_of (begun b) tick cycle events
+  unfolding code_taken
   begins_is tick cycle events = grind arith
 
-  pub begun_ends : (begun b).cycle.ends ≡ ends_pass b.registers k
-  unfolding begun
-  begun_ends = ends_here b.registers k b.cycle.index index
+  -- and then the one after it is next
+  pub begun_next : NextIs b.registers k b.cycle.odd b.cycle.slot → NextIs b.registers (suc k) (begun b).cycle.odd (begun b).cycle.slot
+  unfolding code_taken
+  begun_next next =
+      record {
+        parity =
+            ap (λ (ends : Bool). cond ends (not b.cycle.odd) b.cycle.odd) (begun_ends (plan_of b.registers) k b.cycle.timer index)
+            ∙ parity_next b.registers k b.cycle.odd next.parity;
+        before = λ j e. slot ∙ ap (slot_of b.registers) (same e);
+      }
+    where
+      slot : (begun b).cycle.slot ≡ slot_of b.registers k
+      slot = grind (arith, next.parity)
 
-  pub begun_lead : (begun b).cycle.lead ≡ lead_after b.registers (ends_pass b.registers k)
-  unfolding begun
-  begun_lead = ap (lead_after b.registers) begun_ends
+      same : {i j : ℕ} → suc i ≡ suc j → i ≡ j
+      same e = cc
 
-  pub begun_index : (begun b).cycle.index ≡ suc k % pass_length b.registers
-  unfolding begun
-  begun_index =
-      ap (λ (ends : Bool). cond ends 0 (b.cycle.index + 1)) begun_ends
-      ∙ index_next b.registers k b.cycle.index index
-
-  module _ (odd : b.cycle.odd ≡ in_odd_pass b.registers k) where
-    pub begun_odd : (begun b).cycle.odd ≡ in_odd_pass b.registers (suc k)
-    unfolding begun
-    begun_odd =
-        ap (λ (ends : Bool). cond ends (not b.cycle.odd) b.cycle.odd) begun_ends
-        ∙ parity_next b.registers k b.cycle.odd odd
-
-    pub begun_slot : (begun b).cycle.slot ≡ slot_of b.registers k
-    unfolding begun
-    begun_slot = grind arith
-
-pub begun_held : (b : Board) → (begun b).held < 65536
-unfolding begun
+pub begun_held : (b : Board) → (begun b).taken < 65536
+unfolding code_taken
 begun_held b =
-    code_below b.range _ (voltage_at b.registers b.inputs ((b.registers.start + b.cycle.index) % 32))
+    code_below b.range _ (voltage_at b.registers b.inputs ((b.registers.start + b.cycle.timer.index) % 32))

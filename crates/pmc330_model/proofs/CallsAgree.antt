@@ -14,7 +14,7 @@ use Rattle.pmc330_model.specs.declared.Register.TheVariants.{Mailbox}
 use Rattle.pmc330_model.specs.Words.{with_word, read_bytes, is_start}
 use Rattle.pmc330_model.specs.Calls.{Call, read, write, input, advance, trigger, reset, look, clear}
 use Rattle.pmc330_model.specs.Board.{after_read, after_call, value_of_call, questions_of, board_call, stores_in}
-use Rattle.pmc330_model.specs.Logbook.{Event, was_reset, Running, idle, is_idle, Logbook, read_event, happens, logbook_questions, logged, logged_value, logged_answer, stores_made, ticks_pass}
+use Rattle.pmc330_model.specs.Logbook.{Event, was_reset, CycleSince, idle, is_idle, Logbook, read_event, happens, logbook_questions, logged, logged_value, logged_answer, stores_made, ticks_pass}
 use Rattle.pmc330_model.specs.Questions.{is_allowed, is_valid, has_channels, has_interval, start_questions, resulting_word, call_questions}
 use Rattle.pmc330_model.specs.declared.Registers.{Registers}
 use Rattle.pmc330_model.specs.declared.Board.{Board}
@@ -28,8 +28,8 @@ use Rattle.pmc330_model.proofs.Triggers.{trigger_agrees}
 use Rattle.pmc330_model.proofs.Writes.{write_agrees}
 use Rattle.analog.specs.declared.Refusal.TheVariants.{BadCode, Busy}
 
-module _ (b : Board) (tick : ℕ) (cycle : Running) (events : List Event) (agrees : Agrees b tick cycle events) where
-  read_agrees : (register : Register) → Related (record { range = b.range; registers = b.registers; gains = b.gains; inputs = b.inputs; tick = tick; taken = b.held; cycle = cycle; events = read_event register events }) (after_read register b)
+module _ (b : Board) (tick : ℕ) (cycle : CycleSince) (events : List Event) (agrees : Agrees b tick cycle events) where
+  read_agrees : (register : Register) → Related (record { range = b.range; registers = b.registers; gains = b.gains; inputs = b.inputs; tick = tick; taken = b.taken; cycle = cycle; events = read_event register events }) (after_read register b)
   read_agrees (Mailbox slot) =
       record {
         tick = tick;
@@ -39,7 +39,7 @@ module _ (b : Board) (tick : ℕ) (cycle : Running) (events : List Event) (agree
         agrees =
             record {
               memory = memory_read events b.codes b.unread b.pending agrees.memory slot;
-              held = agrees.held;
+              taken = agrees.taken;
               limits = agrees.limits;
               running = agrees.running;
             };
@@ -90,7 +90,7 @@ module _ (b : Board) (tick : ℕ) (cycle : Running) (events : List Event) (agree
         cycle = cycle;
         events = events;
         same = refl;
-        agrees = record { memory = agrees.memory; held = agrees.held; limits = agrees.limits; running = agrees.running };
+        agrees = record { memory = agrees.memory; taken = agrees.taken; limits = agrees.limits; running = agrees.running };
       }
   happens_agrees (advance ticks) e =
       let moved = ticks_agree ticks b tick cycle events agrees in
@@ -105,7 +105,7 @@ module _ (b : Board) (tick : ℕ) (cycle : Running) (events : List Event) (agree
         agrees =
             record {
               memory = memory_reset events;
-              held = omega arith;
+              taken = omega arith;
               limits = record { scan = omega arith; start = omega arith; end = omega arith };
               running = refl;
             };

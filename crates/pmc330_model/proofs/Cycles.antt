@@ -1,7 +1,7 @@
 -- When a cycle begins and ends, but for the ticks of an advance and for triggers in external trigger only.
 use mathlib.Core.Bool.{Bool, true, false, cond, ◌&&◌}
 use mathlib.Core.List.{List, [], ◌∷◌, ◌++◌}
-use mathlib.Core.Path.{◌≡◌, refl, sym, ap, subst, ◌∙◌}
+use mathlib.Core.Path.{◌≡◌, refl, sym, ap, ◌∙◌}
 use Prim.Native.Nat.{ℕ}
 use lib.IntN.{ℤ}
 use lib.ListN.{set}
@@ -18,7 +18,7 @@ use Rattle.pmc330_model.specs.Words.{bit_of, with_word, gains_with, is_release, 
 use Rattle.pmc330_model.specs.Schedule.{is_burst, is_timed, is_trigger_only, channel_of, code_at}
 use Rattle.pmc330_model.specs.Calls.{Call, read, write, input, advance, trigger, reset}
 use Rattle.pmc330_model.specs.Questions.{call_questions, resulting_word, has_channels, has_interval}
-use Rattle.pmc330_model.specs.Logbook.{Event, Running, idle, since, was_reset, cycle_start, release, was_read, Logbook, stores_since, with_happened, starts, triggered_in, trigger_comes, read_event, writes, happens, is_idle, logbook_questions, logged}
+use Rattle.pmc330_model.specs.Logbook.{Event, CycleSince, idle, since, was_reset, cycle_start, release, was_read, Logbook, stores_since, with_happened, starts, triggered_in, trigger_comes, read_event, writes, happens, is_idle, logbook_questions, logged}
 use Rattle.pmc330_model.specs.Sentences.{starts_cycle, stops_or_resets, events_of, cleared_logbook, may_store}
 use Rattle.pmc330_model.proofs.Triggers.{timed_not_only}
 
@@ -58,7 +58,7 @@ write_starts StartConvert word l e = ap (λ (t : Bool). cond t (starts l) l) e
 write_starts _ word l e = cc
 
 -- a trigger with field 01 while idle, in a timed mode
-idle_is : (cycle : Running) → is_idle cycle ≡ true → cycle ≡ idle
+idle_is : (cycle : CycleSince) → is_idle cycle ≡ true → cycle ≡ idle
 idle_is idle e = refl
 idle_is (since T triggers) e = cc
 
@@ -95,11 +95,26 @@ unfolding writes
 write_stops Control word l e = ap (λ (t : Bool). cond t idle l.cycle) e
 write_stops _ word l e = cc
 
+-- what the tests of a write say, in whatever order they stand
+stop_parts :
+    (l : Logbook) (width offset value : ℕ) → stops_or_resets l (write width offset value) ≡ true
+    → (all_met (logbook_questions l (write width offset value)) ≡ true)
+    × (is_stop (class_of offset) (resulting_word l.registers l.gains width offset value) ≡ true)
+stop_parts l width offset value e = grind arith
+
+module _ (l : Logbook) (width offset value : ℕ) (met : all_met (logbook_questions l (write width offset value)) ≡ true) where
+  stops_is : stops_or_resets l (write width offset value) ≡ is_stop (class_of offset) (resulting_word l.registers l.gains width offset value)
+  stops_is = grind (arith, met)
+
+  starts_as : starts_cycle l (write width offset value) ≡ is_start (class_of offset) (resulting_word l.registers l.gains width offset value)
+  starts_as = grind (arith, met)
+
 pub cycle_ends : (l : Logbook) (call : Call) → stops_or_resets l call ≡ true → (logged l call).cycle ≡ idle
 unfolding happens all_met call_questions
 cycle_ends l (write width offset value) e =
-    ap (λ (after : Logbook). after.cycle) (accepted_is l (write width offset value) (and_parts _ _ e).0)
-    ∙ write_stops (class_of offset) (resulting_word l.registers l.gains width offset value) l (and_parts _ _ e).1
+    let parts = stop_parts l width offset value e in
+    ap (λ (after : Logbook). after.cycle) (accepted_is l (write width offset value) parts.0)
+    ∙ write_stops (class_of offset) (resulting_word l.registers l.gains width offset value) l parts.1
 cycle_ends l reset e = ap (λ (after : Logbook). after.cycle) (accepted_is l reset refl)
 cycle_ends l _ e = cc
 
@@ -110,7 +125,7 @@ unfolding trigger_comes
 no_start l timed none = trigger_is l ∙ go (eqb (trigger_field l.registers.control) 1) l.cycle none
   where
     go :
-        (acts : Bool) (cycle : Running)
+        (acts : Bool) (cycle : CycleSince)
         → (is_idle cycle && acts && is_timed l.registers && has_channels l.registers && has_interval l.registers) ≡ false
         → cond acts (triggered_in cycle l) l ≡ l
     go false cycle e = refl
@@ -127,24 +142,15 @@ pub cycle_stays :
     (l : Logbook) (call : Call) → starts_cycle l call ≡ false → stops_or_resets l call ≡ false → may_store l.registers call ≡ false
     → (logged l call).cycle ≡ l.cycle
 unfolding happens
-cycle_stays l (write width offset value) start stop none =
-    go (all_met (logbook_questions l (write width offset value))) refl
-    (is_start (class_of offset) (resulting_word l.registers l.gains width offset value)) refl
-    (is_stop (class_of offset) (resulting_word l.registers l.gains width offset value)) refl
-    start stop
+cycle_stays l (write width offset value) start stop none = go (all_met (logbook_questions l (write width offset value))) refl
   where
-    go :
-        (met : Bool) → all_met (logbook_questions l (write width offset value)) ≡ met
-        → (is : Bool) → is_start (class_of offset) (resulting_word l.registers l.gains width offset value) ≡ is
-        → (ends : Bool) → is_stop (class_of offset) (resulting_word l.registers l.gains width offset value) ≡ ends
-        → (met && is) ≡ false → (met && ends) ≡ false
-        → (logged l (write width offset value)).cycle ≡ l.cycle
-    go false m is i ends s a b = ap (λ (after : Logbook). after.cycle) (refused_is l (write width offset value) m)
-    go true m false i false s a b =
+    go : (met : Bool) → all_met (logbook_questions l (write width offset value)) ≡ met → (logged l (write width offset value)).cycle ≡ l.cycle
+    go false m = ap (λ (after : Logbook). after.cycle) (refused_is l (write width offset value) m)
+    go true m =
         ap (λ (after : Logbook). after.cycle) (accepted_is l (write width offset value) m)
-        ∙ write_stays (class_of offset) (resulting_word l.registers l.gains width offset value) l i s
-    go true m true i ends s a b = cc
-    go true m false i true s a b = cc
+        ∙ write_stays (class_of offset) (resulting_word l.registers l.gains width offset value) l
+        (sym (starts_as l width offset value m) ∙ start)
+        (sym (stops_is l width offset value m) ∙ stop)
 cycle_stays l (advance ticks) start stop none = cc
 cycle_stays l trigger start stop none = ap (λ (after : Logbook). after.cycle) (no_start l none start)
 cycle_stays l reset start stop none = cc
@@ -250,9 +256,19 @@ pub writes_is :
     }
 unfolding happens
 writes_is l width offset value met none =
+    let register : Register = class_of offset in
     let word : ℕ = resulting_word l.registers l.gains width offset value in
-    let unstarted : is_start (class_of offset) word ≡ false = subst (λ (t : Bool). (t && is_start (class_of offset) word) ≡ false) met none in
-    accepted_is l (write width offset value) met ∙ rw met (written_is l (class_of offset) word unstarted)
+    accepted_is l (write width offset value) met
+    ∙ written_is l register word (sym (starts_as l width offset value met) ∙ none)
+    ∙ ap
+    (λ (stops : Bool).
+    record l {
+      registers = with_word register word l.registers;
+      gains = gains_with register word l.gains;
+      cycle = cond stops idle l.cycle;
+      events = events_of l (write width offset value) ++ l.events;
+    })
+    (sym (stops_is l width offset value met))
 
 pub resets : (l : Logbook) → logged l reset ≡ cleared_logbook l.range l.inputs (was_reset ∷ l.events)
 unfolding happens all_met call_questions

@@ -5,13 +5,12 @@ use mathlib.Core.Logic.{◌⊎◌, inl, inr}
 use mathlib.Core.Path.{◌≡◌, refl, sym, ap, ◌∙◌}
 use Prim.Native.Nat.{ℕ, suc, ◌+◌, ◌/◌, ◌%◌, ◌≤◌, ◌<◌}
 use native.Mathlib.Omega.{arith}
-use lib.Dec.{leb}
 use Rattle.std.specs.Prelude.{Some, None}
-use Rattle.schedule.proofs.Places.{same_pass, next_place, next_pass, first_place}
+use Rattle.schedule.proofs.Places.{same_pass, next_pass}
 use Rattle.schedule.proofs.Schedule as laws
 use Rattle.pmc330_model.specs.Schedule.{pass_length, is_single, is_timed, in_odd_pass, slot_of, ends_pass, begins_at, is_scheduled}
 use Rattle.pmc330_model.specs.Plan.{plan_of}
-use Rattle.pmc330_model.specs.Logbook.{Running, idle, since, due_after}
+use Rattle.pmc330_model.specs.Logbook.{CycleSince, idle, since, due_after}
 use Rattle.pmc330_model.specs.declared.Registers.{Registers}
 use Rattle.pmc330_model.proofs.Agreement.{Startable}
 use Rattle.pmc330_model.proofs.Schedule.{odd_next, begins_is, scheduled_is, due_is, apart_is}
@@ -35,7 +34,7 @@ module _ (r : Registers) (startable : Startable r) where
         (λ i scheduled at. fails i (scheduled_is r timed i ∙ scheduled) (ap (λ (n : ℕ). T + n + delay) (begins_is r timed i) ∙ at))
 
 -- a mode that is not timed has no conversion in time
-pub untimed_due : (delay : ℕ) (r : Registers) (tick : ℕ) (cycle : Running) → is_timed r ≡ false → due_after delay r tick cycle ≡ None
+pub untimed_due : (delay : ℕ) (r : Registers) (tick : ℕ) (cycle : CycleSince) → is_timed r ≡ false → due_after delay r tick cycle ≡ None
 unfolding due_after
 untimed_due delay r tick idle untimed = refl
 untimed_due delay r tick (since T triggers) untimed = laws.search_none _ (suc tick) 0 (λ j low. rw untimed)
@@ -47,18 +46,6 @@ module _ (r : Registers) (timed : is_timed r ≡ true) where
 
   pub scheduled_next : (k : ℕ) → is_scheduled r k ≡ true → is_scheduled r (suc k) ≡ not (is_single r && ends_pass r k)
   scheduled_next k on = scheduled_is r timed (suc k) ∙ laws.scheduled_next (plan_of r) k (sym (scheduled_is r timed k) ∙ on)
-
--- the board's place goes from a conversion to the next
-module _ (r : Registers) where
-  pub ends_here : (k i : ℕ) → i ≡ k % pass_length r → leb (pass_length r) (i + 1) ≡ ends_pass r k
-  ends_here k i e = grind arith
-
-  pub index_next : (k i : ℕ) → i ≡ k % pass_length r → cond (ends_pass r k) 0 (i + 1) ≡ suc k % pass_length r
-  index_next k i e = go (laws.inside_or_ends (plan_of r) k)
-    where
-      go : (suc (k % pass_length r) ≡ pass_length r) ⊎ (suc (k % pass_length r) < pass_length r) → cond (ends_pass r k) 0 (i + 1) ≡ suc k % pass_length r
-      go (inl h) = rw (laws.ends_is (plan_of r) k h) (sym (first_place k (pass_length r) h))
-      go (inr h) = rw (laws.inside_is (plan_of r) k h, e) (omega (arith, next_place k (pass_length r) h))
 
 -- the parity of the pass goes from a conversion to the next
 pub parity_next : (r : Registers) (k : ℕ) (odd : Bool) → odd ≡ in_odd_pass r k → cond (ends_pass r k) (not odd) odd ≡ in_odd_pass r (suc k)

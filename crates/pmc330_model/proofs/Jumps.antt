@@ -1,173 +1,191 @@
--- Many ticks at once: what a board does in n ticks, said without counting them one by one.
+-- Many ticks at once: a board's time is that of its scan, so that what is proved of every scan (schedule) is of boards too.
 use mathlib.Core.Bool.{Bool, true, false, cond, ◌&&◌}
-use mathlib.Core.Logic.{◌⊎◌}
-use mathlib.Core.Path.{◌≡◌, refl, sym, ap, ap₂, ◌∙◌}
-use Prim.Native.Nat.{ℕ, zero, suc, ◌+◌, ◌-◌, ◌*◌, ◌≤◌, ◌<◌}
-use native.Mathlib.Nat.{add-zero, zero-add, sub-zero, zero-mul, suc-mul}
+use mathlib.Core.Path.{◌≡◌, refl, sym, ap, ◌∙◌}
+use Prim.Native.Nat.{ℕ, ◌+◌}
 use native.Mathlib.Omega.{arith}
-use lib.Dec.{eqb}
-use Rattle.pmc330_model.specs.Schedule.{is_timed}
-use Rattle.pmc330_model.specs.Board.{with_cycle, elapsed, is_store_due, is_beginning_due, stored_if_due, begun_if_due, ticked, advanced, stores_in}
-use Rattle.pmc330_model.specs.Jumps.{elapsed_by, jumped}
-use Rattle.pmc330_model.specs.declared.Cycle.{Cycle}
+use Rattle.schedule.specs.Timer.{idle_timer, elapsed_by}
+use Rattle.schedule.specs.Scan.{Scan, scan}
+use Rattle.schedule.specs.Scan as schedule
+use Rattle.schedule.specs.declared.Plan.{Plan}
+use Rattle.schedule.specs.declared.Timer.{Timer}
+use Rattle.schedule.proofs.Jumps as laws
+use Rattle.schedule.proofs.Maps.{advanced_seen, stores_seen, advanced_keeps}
+use Rattle.pmc330_model.specs.Schedule.{is_single, is_timed}
+use Rattle.pmc330_model.specs.Plan.{plan_of}
+use Rattle.pmc330_model.specs.Board.{idle_cycle, with_cycle, with_timer, stored, code_taken, stored_in_time, board_effects, scan_of, scanned, advanced, stores_in}
+use Rattle.pmc330_model.specs.declared.Registers.{Registers}
 use Rattle.pmc330_model.specs.declared.Board.{Board}
-use Rattle.pmc330_model.proofs.Sentences.{advanced_add, stores_add}
 
--- n ticks reach at most the end of a countdown, if one runs
-abbrev pub Within : (n count : ℕ) → Type 0
-Within n count = (count ≡ 0) ⊎ (n ≤ count)
+-- ---- a scan's board has a timer of its own, that no beginning and no store looks at
 
--- ---- countdowns
+abbrev pub timerless : Board → Board
+timerless b = with_timer b idle_timer
 
--- the cycle with other countdowns
-abbrev counting : Cycle → (lead lag : ℕ) → Cycle
-counting c lead lag =
-    record {
-      running = c.running;
-      lead = lead;
-      lag = lag;
-      waiting = c.waiting;
-      slot = c.slot;
-      ends = c.ends;
-      index = c.index;
-      odd = c.odd;
-    }
+-- the scan of a board, whose timer is in one place
+abbrev pub bare : Board → Scan Board
+bare b = scan b.cycle.timer (timerless b)
 
-elapsed_none : (c : Cycle) → elapsed_by 0 c ≡ c
-elapsed_none c = ap₂ (counting c) (sub-zero c.lead) (sub-zero c.lag)
+taken_bare : (index : ℕ) (b : Board) → timerless (code_taken index b) ≡ code_taken index (timerless b)
+unfolding code_taken
+taken_bare index b = refl
 
--- one tick, then n
-elapsed_more : (n : ℕ) (c : Cycle) → elapsed_by n (elapsed c) ≡ elapsed_by (suc n) c
-elapsed_more n c = grind arith
-
--- a countdown that ends n ticks after the next one
-ends_later : (n count : ℕ) → eqb (count - 1) (suc n) ≡ eqb count (suc (suc n))
-ends_later n count = grind arith
-
-within_next : (n count : ℕ) → Within (suc (suc n)) count → Within (suc n) (count - 1)
-within_next n count h = grind arith
-
--- a countdown of two ticks or more does not end in the next one
-not_due : (n count : ℕ) → Within (suc (suc n)) count → eqb count 1 ≡ false
-not_due n count h = grind arith
-
--- ---- a tick of a running board
-
-module _ (b : Board) (running : b.cycle.running ≡ true) where
-  -- what is due in it
-  due_is : (timed : Bool) → is_timed b.registers ≡ timed → (count : ℕ) → (b.cycle.running && is_timed b.registers && eqb count 1) ≡ (timed && eqb count 1)
-  due_is timed e count = grind arith
-
-  ticked_is :
-      (beginning due : Bool) → is_beginning_due b ≡ beginning → is_store_due b ≡ due
-      → ticked b ≡ begun_if_due beginning (stored_if_due due (with_cycle b (elapsed b.cycle)))
-  unfolding ticked
-  ticked_is beginning due e d = grind arith
-
--- ---- a running board in a timed mode, up to the next store or beginning
-
-pub jump_board : (n : ℕ) (b : Board) → b.cycle.running ≡ true → is_timed b.registers ≡ true → 0 < n → Within n b.cycle.lead → Within n b.cycle.lag → advanced n b ≡ jumped n b
-unfolding advanced
-jump_board zero b running timed some lead lag = absurd (omega arith)
-jump_board (suc zero) b running timed some lead lag =
-    ticked_is b running (eqb b.cycle.lead 1) (eqb b.cycle.lag 1) (due_is b running true timed b.cycle.lead)
-    (due_is b running true timed b.cycle.lag)
-jump_board (suc (suc n)) b running timed some lead lag =
-    ap (advanced (suc n))
-    (ticked_is b running false false (due_is b running true timed b.cycle.lead ∙ not_due n b.cycle.lead lead)
-    (due_is b running true timed b.cycle.lag ∙ not_due n b.cycle.lag lag))
-    ∙ jump_board (suc n) (with_cycle b (elapsed b.cycle)) running timed (omega arith) (within_next n b.cycle.lead lead)
-    (within_next n b.cycle.lag lag)
-    ∙ ap (λ (c : Cycle). begun_if_due (eqb (b.cycle.lead - 1) (suc n)) (stored_if_due (eqb (b.cycle.lag - 1) (suc n)) (with_cycle b c)))
-    (elapsed_more (suc n) b.cycle)
-    ∙ ap₂ (λ (beginning due : Bool). begun_if_due beginning (stored_if_due due (with_cycle b (elapsed_by (suc (suc n)) b.cycle))))
-    (ends_later n b.cycle.lead)
-    (ends_later n b.cycle.lag)
-
-pub jump_stores : (n : ℕ) (b : Board) → b.cycle.running ≡ true → is_timed b.registers ≡ true → 0 < n → Within n b.cycle.lead → Within n b.cycle.lag → stores_in n b ≡ cond (eqb b.cycle.lag n) 1 0
-unfolding stores_in
-jump_stores zero b running timed some lead lag = absurd (omega arith)
-jump_stores (suc zero) b running timed some lead lag =
-    add-zero (cond (is_store_due b) 1 0) ∙ ap (λ (due : Bool). cond due 1 0) (due_is b running true timed b.cycle.lag)
-jump_stores (suc (suc n)) b running timed some lead lag =
-    let none-due : is_store_due b ≡ false = due_is b running true timed b.cycle.lag ∙ not_due n b.cycle.lag lag in
-    ap₂ (λ (due : Bool) (next : Board). cond due 1 0 + stores_in (suc n) next) none-due
-    (ticked_is b running false false (due_is b running true timed b.cycle.lead ∙ not_due n b.cycle.lead lead) none-due)
-    ∙ zero-add (stores_in (suc n) (with_cycle b (elapsed b.cycle)))
-    ∙ jump_stores (suc n) (with_cycle b (elapsed b.cycle)) running timed (omega arith) (within_next n b.cycle.lead lead)
-    (within_next n b.cycle.lag lag)
-    ∙ ap (λ (due : Bool). cond due 1 0) (ends_later n b.cycle.lag)
-
--- ---- a running board in a mode that is not timed: time passes, and nothing is due
-
-untimed_ticked : (b : Board) → b.cycle.running ≡ true → is_timed b.registers ≡ false → ticked b ≡ with_cycle b (elapsed b.cycle)
-untimed_ticked b running untimed =
-    ticked_is b running false false (due_is b running false untimed b.cycle.lead) (due_is b running false untimed b.cycle.lag)
-
-pub untimed_board : (n : ℕ) (b : Board) → b.cycle.running ≡ true → is_timed b.registers ≡ false → advanced n b ≡ with_cycle b (elapsed_by n b.cycle)
-unfolding advanced
-untimed_board zero b running untimed = ap (with_cycle b) (sym (elapsed_none b.cycle))
-untimed_board (suc n) b running untimed =
-    ap (advanced n) (untimed_ticked b running untimed)
-    ∙ untimed_board n (with_cycle b (elapsed b.cycle)) running untimed
-    ∙ ap (with_cycle b) (elapsed_more n b.cycle)
-
-pub untimed_stores : (n : ℕ) (b : Board) → b.cycle.running ≡ true → is_timed b.registers ≡ false → stores_in n b ≡ 0
-unfolding stores_in
-untimed_stores zero b running untimed = refl
-untimed_stores (suc n) b running untimed =
-    ap₂ (λ (due : Bool) (next : Board). cond due 1 0 + stores_in n next) (due_is b running false untimed b.cycle.lag)
-    (untimed_ticked b running untimed)
-    ∙ zero-add (stores_in n (with_cycle b (elapsed b.cycle)))
-    ∙ untimed_stores n (with_cycle b (elapsed b.cycle)) running untimed
-
--- ---- a board that does not run
-
-idle_ticked : (b : Board) → b.cycle.running ≡ false → ticked b ≡ b
-unfolding ticked
-idle_ticked b stopped = grind arith
-
-pub idle_board : (n : ℕ) (b : Board) → b.cycle.running ≡ false → advanced n b ≡ b
-unfolding advanced
-idle_board zero b stopped = refl
-idle_board (suc n) b stopped = ap (advanced n) (idle_ticked b stopped) ∙ idle_board n b stopped
-
-pub idle_stores : (n : ℕ) (b : Board) → b.cycle.running ≡ false → stores_in n b ≡ 0
-unfolding stores_in
-idle_stores zero b stopped = refl
-idle_stores (suc n) b stopped =
-    ap₂ (λ (runs : Bool) (next : Board). cond (runs && is_timed b.registers && eqb b.cycle.lag 1) 1 0 + stores_in n next) stopped
-    (idle_ticked b stopped)
-    ∙ zero-add (stores_in n b)
-    ∙ idle_stores n b stopped
-
--- ---- at most one store in a tick
-
-pub stores_most : (n : ℕ) (b : Board) → stores_in n b ≤ n
-unfolding stores_in
-stores_most zero b = omega arith
-stores_most (suc n) b = omega (arith, at_most_one (is_store_due b), stores_most n (ticked b))
+stored_bare : (ends : Bool) (b : Board) → timerless (stored_in_time ends b) ≡ stored_in_time ends (timerless b)
+unfolding stored
+stored_bare ends b = go (is_single b.registers && ends)
   where
-    at_most_one : (due : Bool) → cond due 1 0 ≤ 1
-    at_most_one true = omega arith
-    at_most_one false = omega arith
+    go :
+        (over : Bool)
+        → timerless (with_cycle (stored b.cycle.slot ends b) (cond over (record idle_cycle { timer = b.cycle.timer }) (record b.cycle { waiting = false })))
+        ≡ with_cycle (stored b.cycle.slot ends (timerless b)) (cond over idle_cycle (record b.cycle { timer = idle_timer; waiting = false }))
+    go true = refl
+    go false = refl
 
--- ---- n ticks that come back to the same board, j times
+-- ---- a mode in time
 
-pub repeat_board : (n : ℕ) (b : Board) → advanced n b ≡ b → (j : ℕ) → advanced (j * n) b ≡ b
-unfolding advanced
-repeat_board n b back zero = ap (λ (ticks : ℕ). advanced ticks b) (zero-mul n)
-repeat_board n b back (suc j) =
-    ap (λ (ticks : ℕ). advanced ticks b) (suc-mul j n)
-    ∙ sym (advanced_add (j * n) n b)
-    ∙ ap (advanced n) (repeat_board n b back j)
-    ∙ back
+abbrev pub run : Registers → (n : ℕ) → Scan Board → Scan Board
+run r n s = schedule.advanced (plan_of r) board_effects n s
 
-pub repeat_stores : (n : ℕ) (b : Board) → advanced n b ≡ b → (j : ℕ) → stores_in (j * n) b ≡ j * stores_in n b
-unfolding stores_in
-repeat_stores n b back zero = ap (λ (ticks : ℕ). stores_in ticks b) (zero-mul n) ∙ sym (zero-mul (stores_in n b))
-repeat_stores n b back (suc j) =
-    ap (λ (ticks : ℕ). stores_in ticks b) (suc-mul j n)
-    ∙ sym (stores_add (j * n) n b)
-    ∙ ap₂ ◌+◌ (repeat_stores n b back j) (ap (stores_in n) (repeat_board n b back j))
-    ∙ sym (suc-mul j (stores_in n b))
+abbrev pub stores_of : Registers → (n : ℕ) → Scan Board → ℕ
+stores_of r n s = schedule.stores_in (plan_of r) board_effects n s
+
+module _ (n : ℕ) (b : Board) (timed : is_timed b.registers ≡ true) where
+  pub timed_board : advanced n b ≡ scanned (run b.registers n (scan_of b))
+  unfolding advanced
+  timed_board = rw timed refl
+
+  pub timed_stores : stores_in n b ≡ stores_of b.registers n (scan_of b)
+  unfolding stores_in
+  timed_stores = rw timed refl
+
+  pub bare_advanced : bare (advanced n b) ≡ run b.registers n (bare b)
+  bare_advanced = ap bare timed_board ∙ advanced_seen (plan_of b.registers) board_effects board_effects timerless taken_bare stored_bare n (scan_of b)
+
+  pub bare_stores : stores_in n b ≡ stores_of b.registers n (bare b)
+  bare_stores = timed_stores ∙ stores_seen (plan_of b.registers) board_effects board_effects timerless taken_bare stored_bare n (scan_of b)
+
+-- ---- the other modes, and a board that does not run
+
+module _ (n : ℕ) (b : Board) where
+  pub idle_board : b.cycle.timer.running ≡ false → advanced n b ≡ b
+  unfolding advanced
+  idle_board stopped = go (is_timed b.registers)
+    where
+      go : (timed : Bool) → cond timed (scanned (run b.registers n (scan_of b)))
+          (cond b.cycle.timer.running (with_timer b (elapsed_by n b.cycle.timer)) b) ≡ b
+      go true = ap scanned (laws.idle_stays (plan_of b.registers) board_effects n (scan_of b) stopped)
+      go false = rw stopped refl
+
+  pub idle_stores : b.cycle.timer.running ≡ false → stores_in n b ≡ 0
+  unfolding stores_in
+  idle_stores stopped = go (is_timed b.registers)
+    where
+      go : (timed : Bool) → cond timed (stores_of b.registers n (scan_of b)) 0 ≡ 0
+      go true = laws.idle_stores (plan_of b.registers) board_effects n (scan_of b) stopped
+      go false = refl
+
+  pub untimed_board : b.cycle.timer.running ≡ true → is_timed b.registers ≡ false → advanced n b ≡ with_timer b (elapsed_by n b.cycle.timer)
+  unfolding advanced
+  untimed_board running untimed = rw (untimed, running) refl
+
+  pub untimed_stores : is_timed b.registers ≡ false → stores_in n b ≡ 0
+  unfolding stores_in
+  untimed_stores untimed = rw untimed refl
+
+-- ---- no ticks
+
+pub no_ticks : (b : Board) → advanced 0 b ≡ b
+unfolding advanced schedule.advanced
+no_ticks b = go (is_timed b.registers) b.cycle.timer.running
+  where
+    none : (t : Timer) → elapsed_by 0 t ≡ t
+    none t = grind arith
+
+    go : (timed running : Bool) → cond timed (scanned (run b.registers 0 (scan_of b))) (cond running (with_timer b (elapsed_by 0 b.cycle.timer)) b) ≡ b
+    go true running = refl
+    go false true = ap (with_timer b) (none b.cycle.timer)
+    go false false = refl
+
+pub no_stores : (b : Board) → stores_in 0 b ≡ 0
+unfolding stores_in schedule.stores_in
+no_stores b = go (is_timed b.registers)
+  where
+    go : (timed : Bool) → cond timed (stores_of b.registers 0 (scan_of b)) 0 ≡ 0
+    go true = refl
+    go false = refl
+
+-- ---- what time does not change
+
+pub record Fixed (a b : Board) : Type 0 where
+  pub range : a.range ≡ b.range
+  pub inputs : a.inputs ≡ b.inputs
+  pub gains : a.gains ≡ b.gains
+  pub registers : a.registers ≡ b.registers
+
+pub advanced_fixed : (n : ℕ) (b : Board) → Fixed (advanced n b) b
+unfolding advanced stored code_taken
+advanced_fixed n b = go (is_timed b.registers) b.cycle.timer.running
+  where
+    p : Plan
+    p = plan_of b.registers
+
+    go : (timed running : Bool) → Fixed (cond timed (scanned (run b.registers n (scan_of b)))
+        (cond running (with_timer b (elapsed_by n b.cycle.timer)) b)) b
+    go true running =
+        record {
+          range = advanced_keeps p board_effects (λ (c : Board). c.range) (λ index c. refl) (λ ends c. refl) n (scan_of b);
+          inputs = advanced_keeps p board_effects (λ (c : Board). c.inputs) (λ index c. refl) (λ ends c. refl) n (scan_of b);
+          gains = advanced_keeps p board_effects (λ (c : Board). c.gains) (λ index c. refl) (λ ends c. refl) n (scan_of b);
+          registers = advanced_keeps p board_effects (λ (c : Board). c.registers) (λ index c. refl) (λ ends c. refl) n (scan_of b);
+        }
+    go false true = record { range = refl; inputs = refl; gains = refl; registers = refl }
+    go false false = record { range = refl; inputs = refl; gains = refl; registers = refl }
+
+-- ---- n ticks and then k ticks are n + k
+
+module _ (n k : ℕ) (b : Board) where
+  same_mode : (advanced n b).registers ≡ b.registers
+  same_mode = (advanced_fixed n b).registers
+
+  -- as the scans have them
+  module _ (timed : is_timed b.registers ≡ true) where
+    still_timed : is_timed (advanced n b).registers ≡ true
+    still_timed = ap is_timed same_mode ∙ timed
+
+    then_board : bare (advanced k (advanced n b)) ≡ run b.registers k (run b.registers n (bare b))
+    then_board =
+        bare_advanced k (advanced n b) still_timed
+        ∙ ap (λ (r : Registers). run r k (bare (advanced n b))) same_mode
+        ∙ ap (run b.registers k) (bare_advanced n b timed)
+
+    then_stores : stores_in k (advanced n b) ≡ stores_of b.registers k (run b.registers n (bare b))
+    then_stores =
+        bare_stores k (advanced n b) still_timed
+        ∙ ap (λ (r : Registers). stores_of r k (bare (advanced n b))) same_mode
+        ∙ ap (stores_of b.registers k) (bare_advanced n b timed)
+
+  pub advanced_add : advanced k (advanced n b) ≡ advanced (n + k) b
+  advanced_add = go (is_timed b.registers) refl b.cycle.timer.running refl
+    where
+      go : (timed : Bool) → is_timed b.registers ≡ timed → (running : Bool) → b.cycle.timer.running ≡ running → advanced k (advanced n b) ≡ advanced (n + k) b
+      go true timed running runs =
+          ap scanned (then_board timed ∙ laws.advanced_add (plan_of b.registers) board_effects n k (bare b) ∙ sym (bare_advanced (n + k) b timed))
+      go false untimed true runs =
+          ap (advanced k) (untimed_board n b runs untimed)
+          ∙ untimed_board k (with_timer b (elapsed_by n b.cycle.timer)) runs untimed
+          ∙ ap (with_timer b) (elapsed_add b.cycle.timer)
+          ∙ sym (untimed_board (n + k) b runs untimed)
+        where
+          elapsed_add : (t : Timer) → elapsed_by k (elapsed_by n t) ≡ elapsed_by (n + k) t
+          elapsed_add t = grind arith
+      go false untimed false stopped =
+          ap (advanced k) (idle_board n b stopped) ∙ idle_board k b stopped ∙ sym (idle_board (n + k) b stopped)
+
+  pub stores_add : stores_in n b + stores_in k (advanced n b) ≡ stores_in (n + k) b
+  stores_add = go (is_timed b.registers) refl
+    where
+      go : (timed : Bool) → is_timed b.registers ≡ timed → stores_in n b + stores_in k (advanced n b) ≡ stores_in (n + k) b
+      go true timed =
+          rw (bare_stores n b timed, then_stores timed)
+          (laws.stores_add (plan_of b.registers) board_effects n k (bare b) ∙ sym (bare_stores (n + k) b timed))
+      go false untimed =
+          rw (untimed_stores n b untimed, untimed_stores k (advanced n b) (ap is_timed same_mode ∙ untimed)) (sym (untimed_stores (n + k) b untimed))

@@ -7,7 +7,6 @@ pub mod Memory
 pub mod Due
 pub mod Begins
 pub mod Stores
-pub mod TickBegins
 pub mod Ticks
 pub mod Replies
 pub mod Reading
@@ -18,10 +17,10 @@ pub mod Starts
 pub mod Triggers
 pub mod Writes
 pub mod CallsAgree
+pub mod Jumps
 pub mod Sentences
 pub mod Looks
-pub mod Waiting
-pub mod Jumps
+pub mod ChannelWait
 pub mod Countdowns
 pub mod NextStores
 pub mod Opening

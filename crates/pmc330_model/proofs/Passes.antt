@@ -8,7 +8,7 @@ use native.Mathlib.Omega.{arith}
 use lib.Dec.{eqb}
 use Rattle.std.proofs.lemmas.Bool.{cases_lt}
 use Rattle.pmc330_model.specs.Schedule.{pass_length, interval, is_differential, is_uniform, channel_of, in_odd_pass, slot_of, burst_delay, begins_at, pass_ticks}
-use Rattle.pmc330_model.specs.Waiting.{slot_passes}
+use Rattle.pmc330_model.specs.ChannelWait.{slot_passes}
 use Rattle.pmc330_model.specs.declared.Registers.{Registers}
 
 -- of periods of some ticks, the one whose moment, 64 ticks later, falls into a span of one period and some ticks more

@@ -18,7 +18,7 @@ use Rattle.pmc330_model.specs.declared.Register.TheVariants.{Interrupt, NewData,
 use Rattle.pmc330_model.specs.Words.{joined, to_bit, bit_of, held_word, read_word, look_value}
 use Rattle.pmc330_model.specs.Questions.{read_questions, call_questions}
 use Rattle.pmc330_model.specs.Board.{view_of, value_of_call, board_call, read_call}
-use Rattle.pmc330_model.specs.Logbook.{Event, Running, last_store, stores_since, interrupted, logbook_view}
+use Rattle.pmc330_model.specs.Logbook.{Event, CycleSince, last_store, stores_since, interrupted, logbook_view}
 use Rattle.pmc330_model.specs.Sentences.{ReadsBit, Sentence3}
 use Rattle.pmc330_model.specs.declared.Board.{Board}
 use Rattle.pmc330_model.proofs.Agreement.{book_of, Agrees}
@@ -172,7 +172,7 @@ pending_bit enable pending = grind arith
 reaches_same : (k count stores : ℕ) → k ≤ 2 → count ≡ min 2 stores → leb k count ≡ leb k stores
 reaches_same k count stores low e = grind arith
 
-module _ (b : Board) (tick : ℕ) (cycle : Running) (events : List Event) where
+module _ (b : Board) (tick : ℕ) (cycle : CycleSince) (events : List Event) where
   -- the stores of a slot that were not read reach a threshold: 1 for New, 2 for Missed
   abbrev reaches : (k slot : ℕ) → Bool
   reaches k slot = leb k (stores_since slot events)

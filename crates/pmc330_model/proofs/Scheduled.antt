@@ -19,7 +19,7 @@ use Rattle.pmc330_model.specs.Words.{is_release, is_stop, is_start}
 use Rattle.pmc330_model.specs.Schedule.{pass_length, is_single, is_timed, is_trigger_only, channel_of, ends_pass, code_at, begins_at, is_scheduled}
 use Rattle.pmc330_model.specs.Calls.{Call, read, write, advance, trigger, reset}
 use Rattle.pmc330_model.specs.Questions.{call_questions, resulting_word, has_channels, has_interval}
-use Rattle.pmc330_model.specs.Logbook.{Event, Running, idle, since, release, was_read, Logbook, with_happened, begins, stores, due_after, if_due, stores_in_time, stores_due, begins_due, tick_passes, ticks_pass, starts, is_taken, stores_before, takes, arms_by_trigger, triggered_in, trigger_comes, read_event, writes, happens, is_idle, logbook_questions, logged}
+use Rattle.pmc330_model.specs.Logbook.{Event, CycleSince, idle, since, release, was_read, Logbook, with_happened, begins, stores, due_after, if_due, stores_in_time, stores_due, begins_due, tick_passes, ticks_pass, starts, is_taken, stores_before, takes, arms_by_trigger, triggered_in, trigger_comes, read_event, writes, happens, is_idle, logbook_questions, logged}
 use Rattle.pmc330_model.specs.Sentences.{last_conversion, InCycle, may_store, stores_among, Scheduled, is_timeless, EveryTick}
 use Rattle.pmc330_model.specs.declared.Registers.{Registers}
 use Rattle.pmc330_model.proofs.Agreement.{Startable}
@@ -106,7 +106,7 @@ unfolding tick_passes
 tick_none l h = grind arith
 
 -- an idle board has no conversion in time
-idle_due : (delay : ℕ) (r : Registers) (tick : ℕ) (cycle : Running) → cycle ≡ idle → due_after delay r tick cycle ≡ None
+idle_due : (delay : ℕ) (r : Registers) (tick : ℕ) (cycle : CycleSince) → cycle ≡ idle → due_after delay r tick cycle ≡ None
 unfolding due_after
 idle_due delay r tick cycle e = ap (due_after delay r tick) e
 
@@ -294,19 +294,19 @@ unfolding trigger_comes
 triggered P l before started armed taken = go (eqb (trigger_field l.registers.control) 1) refl l.cycle refl
   where
     beginning :
-        l.cycle ≡ idle → (only nine start : Bool) → is_trigger_only l.registers ≡ only
-        → P (cond only (cond nine (arms_by_trigger l) l) (cond start (starts l) l))
+        l.cycle ≡ idle → (only channels start : Bool) → is_trigger_only l.registers ≡ only
+        → P (cond only (cond channels (arms_by_trigger l) l) (cond start (starts l) l))
     beginning e true true start o = armed e o
     beginning e true false start o = before
-    beginning e false nine true o = started e o
-    beginning e false nine false o = before
+    beginning e false channels true o = started e o
+    beginning e false channels false o = before
 
     taking : (T : ℕ) (triggers : List ℕ) → l.cycle ≡ since T triggers → trigger_field l.registers.control ≡ 1 → (only on-time : Bool) → is_trigger_only l.registers ≡ only → is_taken l.tick triggers ≡ on-time → P (cond (only && on-time) (takes T triggers l) l)
     taking T triggers e field true true o t = taken T triggers e o field t
     taking T triggers e field true false o t = before
     taking T triggers e field false on-time o t = before
 
-    go : (acts : Bool) → eqb (trigger_field l.registers.control) 1 ≡ acts → (cycle : Running) → l.cycle ≡ cycle → P (cond acts (triggered_in cycle l) l)
+    go : (acts : Bool) → eqb (trigger_field l.registers.control) 1 ≡ acts → (cycle : CycleSince) → l.cycle ≡ cycle → P (cond acts (triggered_in cycle l) l)
     go false e cycle c = before
     go true e idle c =
         beginning c (is_trigger_only l.registers) (has_channels l.registers)
@@ -336,13 +336,13 @@ abbrev triggers_at_first : Logbook → Call → List ℕ
 triggers_at_first l call = cond (may_store l.registers call) (l.tick ∷ []) []
 
 -- what holds of a fresh cycle holds of the cycle after a start
-pub start_cycle : (P : Running → Type 0) (l : Logbook) → P (since l.tick []) → P (starts l).cycle
+pub start_cycle : (P : CycleSince → Type 0) (l : Logbook) → P (since l.tick []) → P (starts l).cycle
 unfolding starts
 start_cycle P l h = grind arith
 
 -- what holds of no cycle and of the cycle that runs holds of the cycle after any ticks
-module _ (P : Running → Type 0) (stopped : P idle) where
-  one_of : (ends : Bool) (cycle : Running) → P cycle → P (cond ends idle cycle)
+module _ (P : CycleSince → Type 0) (stopped : P idle) where
+  one_of : (ends : Bool) (cycle : CycleSince) → P cycle → P (cond ends idle cycle)
   one_of ends cycle h = grind arith
 
   pub ticks_cycle : (n : ℕ) (l : Logbook) → P l.cycle → P (ticks_pass n l).cycle
@@ -392,11 +392,11 @@ module _ (P : Running → Type 0) (stopped : P idle) where
   call_cycle l _ met h fresh more = h
 
 -- a cycle that began at a tick with some triggers taken, and one that runs since T
-abbrev StartedAt : (tick : ℕ) (first : List ℕ) → Running → Type 0
+abbrev StartedAt : (tick : ℕ) (first : List ℕ) → CycleSince → Type 0
 StartedAt tick first idle = Unit
 StartedAt tick first (since T triggers) = (T ≡ tick) × (triggers ≡ first)
 
-abbrev RunsSince : (T : ℕ) → Running → Type 0
+abbrev RunsSince : (T : ℕ) → CycleSince → Type 0
 RunsSince T idle = Unit
 RunsSince T (since later triggers) = later ≡ T
 
@@ -426,7 +426,7 @@ kept_since l call T triggers e =
 -- ---- external trigger only
 
 -- a trigger with field 01, by the cycle that runs
-with_field : (l : Logbook) (cycle : Running) → l.cycle ≡ cycle → trigger_field l.registers.control ≡ 1 → logged l trigger ≡ triggered_in cycle l
+with_field : (l : Logbook) (cycle : CycleSince) → l.cycle ≡ cycle → trigger_field l.registers.control ≡ 1 → logged l trigger ≡ triggered_in cycle l
 unfolding logged call_questions first_no happens trigger_comes
 with_field l cycle e field = grind arith
 
@@ -434,8 +434,8 @@ module _ (l : Logbook) (only : is_trigger_only l.registers ≡ true) where
   armed_is : (T : ℕ) (triggers : List ℕ) (on-time : Bool) → is_taken l.tick triggers ≡ on-time → triggered_in (since T triggers) l ≡ cond on-time (takes T triggers l) l
   armed_is T triggers on-time e = grind arith
 
-  unarmed_is : (nine : Bool) → has_channels l.registers ≡ nine → triggered_in idle l ≡ cond nine (arms_by_trigger l) l
-  unarmed_is nine e = grind arith
+  unarmed_is : (channels : Bool) → has_channels l.registers ≡ channels → triggered_in idle l ≡ cond channels (arms_by_trigger l) l
+  unarmed_is channels e = grind arith
 
   ignored_is :
       ((T : ℕ) → l.cycle ≡ since T [] → trigger_field l.registers.control ≡ 1 → ⊥)
@@ -449,11 +449,11 @@ module _ (l : Logbook) (only : is_trigger_only l.registers ≡ true) where
       late T last earlier e field true t = absurd (later T last earlier e field (leb-true 64 (l.tick - last) t))
       late T last earlier e field false t = refl
 
-      unmet : l.cycle ≡ idle → trigger_field l.registers.control ≡ 1 → (nine : Bool) → has_channels l.registers ≡ nine → cond nine (arms_by_trigger l) l ≡ l
+      unmet : l.cycle ≡ idle → trigger_field l.registers.control ≡ 1 → (channels : Bool) → has_channels l.registers ≡ channels → cond channels (arms_by_trigger l) l ≡ l
       unmet e field true met = absurd (unarmed e field met)
       unmet e field false met = refl
 
-      go : (acts : Bool) → eqb (trigger_field l.registers.control) 1 ≡ acts → (cycle : Running) → l.cycle ≡ cycle → cond acts (triggered_in cycle l) l ≡ l
+      go : (acts : Bool) → eqb (trigger_field l.registers.control) 1 ≡ acts → (cycle : CycleSince) → l.cycle ≡ cycle → cond acts (triggered_in cycle l) l ≡ l
       go false e cycle c = refl
       go true e idle c = unarmed_is (has_channels l.registers) refl ∙ unmet c (eqb-true _ _ e) (has_channels l.registers) refl
       go true e (since T []) c = absurd (armed T c (eqb-true _ _ e))
@@ -463,7 +463,7 @@ module _ (l : Logbook) (only : is_trigger_only l.registers ≡ true) where
 -- ---- the code last taken
 
 start_runs : (l : Logbook) → is_idle (starts l).cycle ≡ false
-start_runs l = start_cycle (λ (c : Running). is_idle c ≡ false) l refl
+start_runs l = start_cycle (λ (c : CycleSince). is_idle c ≡ false) l refl
 
 -- what keeps it: the cycle runs on, or the code is the same
 abbrev Kept : (l after : Logbook) → Type 0
@@ -527,7 +527,7 @@ scheduled l startable =
       taken = λ T last earlier e only field late.
           with_field l (since T (last ∷ earlier)) e field
           ∙ armed_is l only T (last ∷ earlier) true (le-leb 64 (l.tick - last) late);
-      unarmed = λ e only field nine. with_field l idle e field ∙ unarmed_is l only true nine;
+      unarmed = λ e only field channels. with_field l idle e field ∙ unarmed_is l only true channels;
       ignored = ignored_is l;
       other_calls = λ call other.
           either (λ after. stores_among after.events ≡ stores_among l.events) l call (λ met. other_made l call other) refl;

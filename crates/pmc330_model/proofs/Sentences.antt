@@ -2,8 +2,7 @@
 use mathlib.Core.Bool.{Bool, true, cond}
 use mathlib.Core.List.{List, [], ◌∷◌}
 use mathlib.Core.Path.{◌≡◌, refl, sym, ap, ap₂, subst, ◌∙◌}
-use Prim.Native.Nat.{ℕ, zero, suc, ◌+◌, ◌*◌, ◌/◌, ◌%◌, ◌≤◌}
-use native.Mathlib.Nat.{zero-add, add_assoc, suc-add}
+use Prim.Native.Nat.{ℕ, ◌+◌, ◌*◌, ◌/◌, ◌%◌, ◌≤◌}
 use native.Mathlib.Omega.{arith}
 use lib.Dec.{leb}
 use borrow.Author.Tests.{ne_eqb, le-leb}
@@ -11,7 +10,7 @@ use Rattle.analog.specs.Answers.{Question, first_no, asked, answered, value_of, 
 use Rattle.analog.specs.Sums.{sum_of}
 use Rattle.analog.proofs.AnswerLaws.{some_first, answered_by}
 use Rattle.pmc330_model.specs.Calls.{Call}
-use Rattle.pmc330_model.specs.Board.{new_board, ticked, advanced, is_store_due, stores_in, questions_of, after_call, value_of_call, board_call, advance_call, board_from, answers_from, board_after}
+use Rattle.pmc330_model.specs.Board.{new_board, advanced, stores_in, questions_of, after_call, value_of_call, board_call, advance_call, board_from, answers_from, board_after}
 use Rattle.pmc330_model.specs.Logbook.{since, Logbook, was_reset, idle, stores_since, new_logbook, logged, logged_answer, logged_from, logged_answers_from, logbook_of}
 use Rattle.pmc330_model.specs.Questions.{call_questions}
 use Rattle.pmc330_model.specs.Sentences.{Sentence1, ReadsBit, Sentence3, EveryCall1, AfterList1, EveryList1, EveryNew1, EveryAnswer, EveryList3, EveryOpening, EverySchedule, EveryStart, EveryTick, EveryPair, EveryAdvances, board_after_advances, value_of_advances}
@@ -19,6 +18,7 @@ use Rattle.pmc330_model.specs.declared.Board.{Board}
 use Rattle.pmc330_model.proofs.Agreement.{Startable, Related}
 use Rattle.pmc330_model.proofs.Cycles.{bits_clear}
 use Rattle.pmc330_model.proofs.CallsAgree.{questions_same, answer_same, call_agrees}
+use Rattle.pmc330_model.proofs.Jumps.{no_ticks, no_stores, advanced_add, stores_add}
 use Rattle.pmc330_model.proofs.Memory.{memory_reset}
 use Rattle.pmc330_model.proofs.Reading.{sentence3_of}
 use Rattle.pmc330_model.proofs.Scheduled.{scheduled, ticks_counted_lem}
@@ -53,7 +53,7 @@ opening range =
       agrees =
           record {
             memory = memory_reset [];
-            held = omega arith;
+            taken = omega arith;
             limits = record { scan = omega arith; start = omega arith; end = omega arith };
             running = refl;
           };
@@ -135,18 +135,6 @@ answers_agree range valid calls = answers_agree_lem calls (new_logbook range) (n
 
 -- ---- jumps in time
 
-pub advanced_add : (n k : ℕ) (b : Board) → advanced k (advanced n b) ≡ advanced (n + k) b
-unfolding advanced
-advanced_add zero k b = rw (zero-add k)
-advanced_add (suc n) k b = rw (suc-add n k) (advanced_add n k (ticked b))
-
-pub stores_add : (n k : ℕ) (b : Board) → stores_in n b + stores_in k (advanced n b) ≡ stores_in (n + k) b
-unfolding advanced stores_in
-stores_add zero k b = rw (zero-add k) (zero-add (stores_in k b))
-stores_add (suc n) k b =
-    rw (suc-add n k, add_assoc (cond (is_store_due b) 1 0) (stores_in n (ticked b)) (stores_in k (advanced n (ticked b))))
-    (ap (λ (m : ℕ). cond (is_store_due b) 1 0 + m) (stores_add n k (ticked b)))
-
 -- an advance is accepted exactly up to the most ticks
 accepted_most : (b : Board) (n : ℕ) → is_accepted (advance_call b n).answer ≡ true → n ≤ 16_777_216
 unfolding board_call call_questions first_no asked answered
@@ -186,12 +174,12 @@ advance_joins b n k accepted =
     }
 
 pub advances_join : EveryAdvances
-unfolding sum_of board_after_advances value_of_advances advanced stores_in
+unfolding sum_of board_after_advances value_of_advances
 advances_join [] b accepted =
     record {
       accepted = tt;
-      board = sym (accepted_board b 0 (omega arith));
-      value = sym (accepted_value b 0 (omega arith));
+      board = sym (accepted_board b 0 (omega arith) ∙ no_ticks b);
+      value = sym (accepted_value b 0 (omega arith) ∙ no_stores b);
     }
 advances_join (n ∷ ns) b accepted =
     let joined = advance_joins b n (sum_of ns) accepted in

@@ -1,50 +1,50 @@
 -- A cycle starts: the board's fresh cycle is the logbook's, in every mode.
-use mathlib.Core.Bool.{true, false}
+use mathlib.Core.Bool.{Bool, true, false, cond}
 use mathlib.Core.List.{List, [], ◌∷◌}
 use mathlib.Core.Logic.{◌⊎◌, inl, inr}
-use mathlib.Core.Path.{◌≡◌, refl, sym, ap, ◌∙◌}
-use Prim.Native.Nat.{ℕ, zero, suc, ◌+◌, ◌%◌, ◌≤◌}
-use native.Mathlib.Nat.{add-zero, zero-mod, zero-div}
+use mathlib.Core.Path.{◌≡◌, refl, sym, subst}
+use Prim.Native.Nat.{ℕ, zero, suc, ◌%◌, ◌≤◌}
+use native.Mathlib.Nat.{zero-mod, zero-div}
 use native.Mathlib.Omega.{arith}
 use lib.ListN.{replicate}
+use Rattle.schedule.specs.declared.Plan.{Plan}
+use Rattle.schedule.proofs.Schedule.{scheduled_first, begins_first}
+use Rattle.schedule.proofs.Standing.{started_stands, begun_stands}
 use Rattle.pmc330_model.specs.Map.{scan_field}
-use Rattle.pmc330_model.specs.Schedule.{pass_length, interval, is_uniform, is_burst, is_timed, is_trigger_only, in_odd_pass, begins_at, is_scheduled}
-use Rattle.pmc330_model.specs.Board.{begun, fresh_cycle, restarted, started}
-use Rattle.pmc330_model.specs.Logbook.{Event, cycle_start, Running, since, starts}
+use Rattle.pmc330_model.specs.Schedule.{pass_length, interval, is_uniform, is_burst, is_timed, is_trigger_only}
+use Rattle.pmc330_model.specs.Plan.{plan_of}
+use Rattle.pmc330_model.specs.Board.{code_taken, begun, fresh_cycle, restarted, started}
+use Rattle.pmc330_model.specs.Logbook.{Event, cycle_start, CycleSince, since, begins, starts}
 use Rattle.pmc330_model.specs.Questions.{has_channels, has_interval}
 use Rattle.pmc330_model.specs.declared.Registers.{Registers}
 use Rattle.pmc330_model.specs.declared.Board.{Board}
-use Rattle.pmc330_model.proofs.Agreement.{book_of, Memory, Limits, Startable, Timed, Armed, Agrees, Related}
-use Rattle.pmc330_model.proofs.Begins.{begins_is, begun_ends, begun_lead, begun_index, begun_odd, begun_slot, begun_held}
+use Rattle.pmc330_model.proofs.Agreement.{book_of, Memory, Limits, Startable, NextIs, Timed, Armed, Agrees, Related}
+use Rattle.pmc330_model.proofs.Begins.{begins_is, begun_next, begun_held}
 use Rattle.pmc330_model.proofs.Memory.{memory_start}
-use Rattle.pmc330_model.proofs.TickBegins.{next_after}
+use Rattle.pmc330_model.proofs.Schedule.{apart_is}
 
 -- what questions 9 and 10 say
-module _ (r : Registers) (limits : Limits r) (nine : has_channels r ≡ true) (ten : has_interval r ≡ true) where
+module _ (r : Registers) (limits : Limits r) (channels : has_channels r ≡ true) (paced : has_interval r ≡ true) where
   pub startable_of : Startable r
   startable_of = grind arith
 
--- when the first conversion begins
-module _ (r : Registers) where
-  first_uniform : is_uniform r ≡ true → begins_at r 0 ≡ interval r
-  unfolding begins_at
-  first_uniform e = grind arith
-
-  first_burst : is_uniform r ≡ false → begins_at r 0 ≡ 0
-  unfolding begins_at
-  first_burst e = grind arith
-
-  first_scheduled : is_timed r ≡ true → is_scheduled r 0 ≡ true
-  first_scheduled timed = grind arith
-
-  first_even : false ≡ in_odd_pass r 0
-  first_even = rw (zero-div (pass_length r))
+-- conversion 0 is next in a fresh cycle
+fresh_next : (r : Registers) → NextIs r 0 false 0
+fresh_next r = record { parity = rw (zero-div (pass_length r)); before = λ j e. cc }
 
 -- a fresh cycle in external trigger only is armed, with no trigger taken yet
 pub fresh_armed : (r : Registers) (tick : ℕ) → is_timed r ≡ false → is_trigger_only r ≡ true → Armed r tick [] (fresh_cycle r)
-fresh_armed r tick timed only = grind arith
+fresh_armed r tick timed only =
+    record {
+      timed = timed;
+      trigger_only = only;
+      running = refl;
+      index = sym (zero-mod (pass_length r));
+      next = fresh_next r;
+      flight = inr (record { are = refl; waiting = refl; lag = refl });
+    }
 
-module _ (b : Board) (tick : ℕ) (cycle : Running) (events : List Event) (agrees : Agrees b tick cycle events) (startable : Startable b.registers) where
+module _ (b : Board) (tick : ℕ) (cycle : CycleSince) (events : List Event) (agrees : Agrees b tick cycle events) (startable : Startable b.registers) where
   -- the board with the bits cleared and the cycle fresh
   abbrev fresh : Board
   fresh = restarted b
@@ -56,7 +56,7 @@ module _ (b : Board) (tick : ℕ) (cycle : Running) (events : List Event) (agree
   fresh_agrees mode =
       record {
         memory = fresh_memory;
-        held = agrees.held;
+        taken = agrees.taken;
         limits = agrees.limits;
         running = record { startable = startable; mode = mode };
       }
@@ -72,40 +72,33 @@ module _ (b : Board) (tick : ℕ) (cycle : Running) (events : List Event) (agree
   uniform : is_uniform b.registers ≡ true → is_burst b.registers ≡ false → Started
   uniform e other =
       let long : 64 ≤ interval b.registers = startable.slow e in
-      let lead : (fresh_cycle b.registers).lead ≡ interval b.registers = rw e in
+      let first : (plan_of b.registers).first ≡ interval b.registers = rw e in
+      let timed : is_timed b.registers ≡ true = rw e in
       no_burst other
       (fresh_agrees
       (inl
       (record {
         k = 0;
-        timed = rw e;
-        running = refl;
-        index = sym (zero-mod (pass_length b.registers));
-        odd = first_even b.registers;
-        next =
-            inl
-            (record {
-              scheduled = first_scheduled b.registers (rw e);
-              some = omega arith;
-              due = omega (arith, first_uniform b.registers e);
-            });
-        flight = inr (record { none = refl; past = λ i h. absurd (omega arith) });
+        timed = timed;
+        stands = started_stands (plan_of b.registers) (apart_is b.registers timed startable) tick (omega arith);
+        next = fresh_next b.registers;
       })))
 
   armed : is_timed b.registers ≡ false → is_trigger_only b.registers ≡ true → is_burst b.registers ≡ false → Started
   armed timed only other = no_burst other (fresh_agrees (inr (fresh_armed b.registers tick timed only)))
 
   -- a burst's first beginning is part of the call that starts it
-  first_place : fresh.cycle.index ≡ 0 % pass_length b.registers
+  first_place : fresh.cycle.timer.index ≡ 0 % pass_length b.registers
   first_place = sym (zero-mod (pass_length b.registers))
 
   burst_agrees : is_timed b.registers ≡ true → is_uniform b.registers ≡ false → Agrees (begun fresh) tick (since tick []) (cycle_start ∷ events)
-  unfolding begun
+  unfolding code_taken
   burst_agrees timed other =
-      let now : tick + begins_at b.registers 0 ≡ tick = ap (λ (n : ℕ). tick + n) (first_burst b.registers other) ∙ add-zero tick in
+      let p : Plan = plan_of b.registers in
+      let first : p.first ≡ 0 = rw other in
       record {
         memory = fresh_memory;
-        held = begun_held fresh;
+        taken = begun_held fresh;
         limits = agrees.limits;
         running =
             record {
@@ -115,32 +108,22 @@ module _ (b : Board) (tick : ℕ) (cycle : Running) (events : List Event) (agree
                   (record {
                     k = 1;
                     timed = timed;
-                    running = refl;
-                    index = begun_index fresh startable 0 first_place;
-                    odd = begun_odd fresh startable 0 first_place (first_even b.registers);
-                    next =
-                        next_after b.registers startable tick tick 0 timed (first_scheduled b.registers timed) now (begun fresh).cycle
-                        (begun_lead fresh startable 0 first_place);
-                    flight =
-                        inl
-                        (record {
-                          j = 0;
-                          last = refl;
-                          scheduled = first_scheduled b.registers timed;
-                          some = omega arith;
-                          most = omega arith;
-                          due = omega arith;
-                          slot = begun_slot fresh startable 0 first_place (first_even b.registers);
-                          ends = begun_ends fresh startable 0 first_place;
-                        });
+                    stands =
+                        begun_stands p (apart_is b.registers timed startable) tick tick 0 fresh.cycle.timer refl first_place (scheduled_first p)
+                        (omega (arith, begins_first p));
+                    next = begun_next fresh startable 0 first_place (fresh_next b.registers);
                   });
             };
       }
 
   burst : is_burst b.registers ≡ true → is_timed b.registers ≡ true → is_uniform b.registers ≡ false → Started
-  unfolding Started starts started
+  unfolding Started starts started code_taken
   burst e timed other =
-      rw e
+      subst
+      (λ (now : Bool).
+      Related (cond now (begins 0 (book_of fresh tick (since tick []) (cycle_start ∷ events))) (book_of fresh tick (since tick []) (cycle_start ∷ events)))
+      (cond now (begun fresh) fresh))
+      (sym e)
       (record {
         tick = tick;
         cycle = since tick [];

@@ -5,20 +5,20 @@ use mathlib.Core.Logic.{◌⊎◌, inl, inr}
 use mathlib.Core.Path.{◌≡◌, refl, sym, subst}
 use Prim.Native.Nat.{ℕ, ◌/◌, ◌%◌}
 use native.Mathlib.Omega.{arith}
+use lib.ListN.{length}
 use borrow.Author.Tests.{leb-true}
 use Rattle.std.proofs.lemmas.Bool.{and_parts, and_right}
 use Rattle.pmc330_model.specs.Map.{scan_field, kept_control}
 use Rattle.pmc330_model.specs.declared.Register.{Register}
 use Rattle.pmc330_model.specs.declared.Register.TheVariants.{Interrupt, Control, Prescaler, Timer, Channels, Gain}
 use Rattle.pmc330_model.specs.Words.{with_word, gains_with, bit_of, is_release, is_stop, is_start}
-use Rattle.pmc330_model.specs.Schedule.{begins_at}
 use Rattle.pmc330_model.specs.Board.{word_written, started, after_write}
-use Rattle.pmc330_model.specs.Logbook.{Event, release, Running, idle, since, is_idle, starts, writes}
+use Rattle.pmc330_model.specs.Logbook.{Event, release, CycleSince, idle, since, is_idle, starts, writes}
 use Rattle.pmc330_model.specs.Questions.{is_allowed, is_valid, has_channels, has_interval}
 use Rattle.pmc330_model.specs.declared.Registers.{Registers}
 use Rattle.pmc330_model.specs.declared.Cycle.{Cycle}
 use Rattle.pmc330_model.specs.declared.Board.{Board}
-use Rattle.pmc330_model.proofs.Agreement.{book_of, Memory, Limits, Startable, InFlight, AllStored, ToCome, NoMore, Timed, Waiting, Untriggered, Armed, RunningAgrees, CycleAgrees, Agrees, Related}
+use Rattle.pmc330_model.proofs.Agreement.{book_of, Memory, Limits, Startable, NextIs, Timed, TriggerTaken, Untriggered, Armed, RunningAgrees, CycleAgrees, Agrees, Related}
 use Rattle.pmc330_model.proofs.Memory.{memory_release}
 use Rattle.pmc330_model.proofs.Starts.{startable_of, started_agrees}
 use Rattle.pmc330_model.proofs.Related.{unchanged, both}
@@ -36,29 +36,14 @@ module _ (r : Registers) (enable : Bool) where
   startable_kept s = grind arith
 
   module _ (T tick : ℕ) (triggers : List ℕ) (c : Cycle) where
-    next_kept : (k : ℕ) → ToCome r T tick k c ⊎ NoMore r k c → ToCome enabled T tick k c ⊎ NoMore enabled k c
-    unfolding begins_at
-    next_kept k h = grind arith
+    next_kept : (k : ℕ) → NextIs r k c.odd c.slot → NextIs enabled k c.odd c.slot
+    next_kept k h = record { parity = h.parity; before = h.before }
 
-    flight_kept : (k : ℕ) → InFlight r T tick k c ⊎ AllStored r T tick k c → InFlight enabled T tick k c ⊎ AllStored enabled T tick k c
-    unfolding begins_at
-    flight_kept k h = grind arith
-
-    waiting_kept : Waiting r tick triggers c ⊎ Untriggered triggers c → Waiting enabled tick triggers c ⊎ Untriggered triggers c
+    waiting_kept : TriggerTaken r tick triggers c ⊎ Untriggered triggers c → TriggerTaken enabled tick triggers c ⊎ Untriggered triggers c
     waiting_kept h = grind arith
 
     mode_kept : Timed r T tick c ⊎ Armed r tick triggers c → Timed enabled T tick c ⊎ Armed enabled tick triggers c
-    mode_kept (inl t) =
-        inl
-        (record {
-          k = t.k;
-          timed = t.timed;
-          running = t.running;
-          index = t.index;
-          odd = t.odd;
-          next = next_kept t.k t.next;
-          flight = flight_kept t.k t.flight;
-        })
+    mode_kept (inl t) = inl (record { k = t.k; timed = t.timed; stands = t.stands; next = next_kept t.k t.next })
     mode_kept (inr a) =
         inr
         (record {
@@ -66,14 +51,14 @@ module _ (r : Registers) (enable : Bool) where
           trigger_only = a.trigger_only;
           running = a.running;
           index = a.index;
-          odd = a.odd;
+          next = next_kept (length triggers) a.next;
           flight = waiting_kept a.flight;
         })
 
     running_kept : RunningAgrees r T tick triggers c → RunningAgrees enabled T tick triggers c
     running_kept h = record { startable = startable_kept h.startable; mode = mode_kept h.mode }
 
-  cycle_kept : (tick : ℕ) (cycle : Running) (c : Cycle) → CycleAgrees r tick cycle c → CycleAgrees enabled tick cycle c
+  cycle_kept : (tick : ℕ) (cycle : CycleSince) (c : Cycle) → CycleAgrees r tick cycle c → CycleAgrees enabled tick cycle c
   cycle_kept tick idle c h = h
   cycle_kept tick (since T triggers) c h = running_kept T tick triggers c h
 
@@ -81,7 +66,7 @@ module _ (r : Registers) (enable : Bool) where
 pub kept_scan : (word : ℕ) → scan_field (kept_control word) ≡ scan_field word
 kept_scan word = omega arith
 
-module _ (b : Board) (tick : ℕ) (cycle : Running) (events : List Event) (agrees : Agrees b tick cycle events) where
+module _ (b : Board) (tick : ℕ) (cycle : CycleSince) (events : List Event) (agrees : Agrees b tick cycle events) where
   abbrev Written : Register → (word : ℕ) → Type 0
   Written register word =
       Agrees (word_written register word b) tick (cond (is_stop register word) idle cycle) (cond (is_release register word) (release ∷ events) events)
@@ -90,11 +75,11 @@ module _ (b : Board) (tick : ℕ) (cycle : Running) (events : List Event) (agree
   kept_memory = rw (and_true b.pending) agrees.memory
 
   -- a write that leaves the registers as they are
-  same_registers : (gains : List ℕ) → Agrees (record { range = b.range; inputs = b.inputs; gains = gains; codes = b.codes; unread = b.unread; pending = b.pending && true; registers = b.registers; held = b.held; cycle = b.cycle }) tick cycle events
+  same_registers : (gains : List ℕ) → Agrees (record { range = b.range; inputs = b.inputs; gains = gains; codes = b.codes; unread = b.unread; pending = b.pending && true; registers = b.registers; taken = b.taken; cycle = b.cycle }) tick cycle events
   same_registers gains = grind arith
 
   -- a write of registers on an idle board
-  new_registers : (r : Registers) → Limits r → is_idle cycle ≡ true → Agrees (record { range = b.range; inputs = b.inputs; gains = b.gains; codes = b.codes; unread = b.unread; pending = b.pending && true; registers = r; held = b.held; cycle = b.cycle }) tick cycle events
+  new_registers : (r : Registers) → Limits r → is_idle cycle ≡ true → Agrees (record { range = b.range; inputs = b.inputs; gains = b.gains; codes = b.codes; unread = b.unread; pending = b.pending && true; registers = r; taken = b.taken; cycle = b.cycle }) tick cycle events
   new_registers r limits e = grind arith
 
   interrupt_written : (word : ℕ) → Written Interrupt word
@@ -102,7 +87,7 @@ module _ (b : Board) (tick : ℕ) (cycle : Running) (events : List Event) (agree
   interrupt_written word =
       record {
         memory = memory (bit_of 15 word);
-        held = agrees.held;
+        taken = agrees.taken;
         limits = record { scan = agrees.limits.scan; start = agrees.limits.start; end = agrees.limits.end };
         running = cycle_kept b.registers (bit_of 0 word) tick cycle b.cycle agrees.running;
       }
@@ -143,12 +128,12 @@ module _ (b : Board) (tick : ℕ) (cycle : Running) (events : List Event) (agree
   module _ (register : Register) (word : ℕ) (next : Written register word) where
     starting : is_start register word ≡ true → has_channels b.registers ≡ true → has_interval b.registers ≡ true → (scan_field b.registers.control ≡ 0 → ⊥)
         → Related (starts (book_of (word_written register word b) tick (cond (is_stop register word) idle cycle) (cond (is_release register word) (release ∷ events) events))) (started (word_written register word b))
-    starting e nine ten some =
+    starting e channels paced some =
         let same : b.registers ≡ with_word register word b.registers = sym (start_keeps register word e) in
         started_agrees (word_written register word b) tick (cond (is_stop register word) idle cycle) (cond (is_release register word) (release ∷ events) events) next
         (startable_of (with_word register word b.registers) next.limits
-        (subst (λ (r : Registers). has_channels r ≡ true) same nine)
-        (subst (λ (r : Registers). has_interval r ≡ true) same ten))
+        (subst (λ (r : Registers). has_channels r ≡ true) same channels)
+        (subst (λ (r : Registers). has_interval r ≡ true) same paced))
         (subst (λ (r : Registers). scan_field r.control ≡ 0 → ⊥) same some)
 
   pub write_agrees :

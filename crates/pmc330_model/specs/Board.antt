@@ -1,11 +1,16 @@
 -- The board's own step for each call. It keeps relative times; that they agree with the schedule is sentence 3.
 -- Every definition is total on every Board value: slots and channels count by their remainder by 32.
-use Rattle.std.specs.Prelude.{ℕ, zero, suc, ◌+◌, ◌-◌, ◌%◌, min, Bool, true, false, not, ◌&&◌, ◌||◌, Option, Some, None, List, [], ◌∷◌, ℤ, pos, slice_index, set, replicate, if◌then◌else◌, ◌==◌, nat_le}
+use Rattle.std.specs.Prelude.{ℕ, ◌+◌, ◌%◌, min, Bool, true, false, not, ◌&&◌, ◌||◌, Option, Some, None, List, [], ◌∷◌, ℤ, pos, slice_index, set, replicate, if◌then◌else◌, ◌==◌, nat_le}
 use Rattle.analog.specs.Answers.{Question, question, first_no, answered, Answer}
+use Rattle.schedule.specs.Timer.{idle_timer, started_timer, elapsed_by, begun_timer}
+use Rattle.schedule.specs.Scan.{Effects, Scan, scan}
+use Rattle.schedule.specs.Scan as schedule
+use Rattle.schedule.specs.declared.Timer.{Timer}
 use Rattle.pmc330_model.specs.Map.{if_mailbox, class_of, trigger_field}
 use Rattle.pmc330_model.specs.declared.Register.{Register}
 use Rattle.pmc330_model.specs.Words.{View, read_word, look_value, read_bytes, with_word, gains_with, is_release, is_stop, is_start}
-use Rattle.pmc330_model.specs.Schedule.{pass_length, interval, is_differential, is_uniform, is_burst, is_single, is_timed, is_trigger_only, code_at, formatted_by, is_interrupting, burst_delay}
+use Rattle.pmc330_model.specs.Schedule.{is_differential, is_burst, is_single, is_timed, is_trigger_only, code_at, formatted_by, is_interrupting}
+use Rattle.pmc330_model.specs.Plan.{plan_of}
 use Rattle.pmc330_model.specs.Calls.{Call, read, write, input, advance, trigger, reset, look, clear}
 use Rattle.pmc330_model.specs.Questions.{call_questions, resulting_word, has_channels, has_interval}
 use Rattle.pmc330_model.specs.declared.Registers.{Registers}
@@ -17,11 +22,14 @@ use Rattle.analog.specs.declared.Refusal.TheVariants.{BadRange}
 
 -- no cycle runs
 abbrev pub idle_cycle : Cycle
-idle_cycle = record { running = false; lead = 0; lag = 0; waiting = false; slot = 0; ends = false; index = 0; odd = false }
+idle_cycle = record { timer = idle_timer; waiting = false; slot = 0; odd = false }
 
--- the board with another cycle
+-- the board with another cycle; with another timer
 abbrev pub with_cycle : Board → Cycle → Board
 with_cycle b c = record b { cycle = c }
+
+abbrev pub with_timer : Board → Timer → Board
+with_timer b t = with_cycle b (record b.cycle { timer = t })
 
 -- a board that is idle, with no store to come and all registers, bits and codes 0; a new board's inputs are 0, and a reset keeps them
 abbrev pub cleared_board : (range : ℕ) → (inputs : List ℤ) → Board
@@ -34,7 +42,7 @@ cleared_board range inputs =
       unread = replicate 32 0;
       pending = false;
       registers = record { enable = false; control = 0; prescaler = 0; timer = 0; start = 0; end = 0 };
-      held = 0;
+      taken = 0;
       cycle = idle_cycle;
     }
 
@@ -45,89 +53,62 @@ new_board range = cleared_board range (replicate 32 (pos 0))
 unfoldable pub stored : (slot : ℕ) (ends : Bool) → Board → Board
 stored slot ends b =
     record b {
-      codes = set b.codes (slot % 32) (formatted_by b.registers b.held);
+      codes = set b.codes (slot % 32) (formatted_by b.registers b.taken);
       unread = set b.unread (slot % 32) (min 2 (slice_index b.unread (slot % 32) + 1));
       pending = b.pending || is_interrupting b.registers ends;
     }
 
--- the ticks from a beginning to the next one; 0 where none is to come
-abbrev pub lead_after : Registers → (ends : Bool) → ℕ
-lead_after r ends =
-    if is_timed r && not (is_single r && ends)
-    then (if is_uniform r then interval r else 120 + (if ends then burst_delay r else 0))
-    else 0
+-- ---- a beginning and a store, beside what they do to the timer
 
--- the cycle after the next conversion has begun: its store 64 ticks later, its slot, and the place and parity of the one after it
-abbrev pub begun_cycle : Registers → Cycle → Cycle
-begun_cycle r c =
-    let ends : Bool = nat_le (pass_length r) (c.index + 1) in
-    record c {
-      lead = lead_after r ends;
-      lag = 64;
-      waiting = true;
-      slot = (r.start + c.index + (if is_differential r && c.odd then 16 else 0)) % 32;
-      ends = ends;
-      index = if ends then 0 else c.index + 1;
-      odd = if ends then not c.odd else c.odd;
-    }
-
--- the next conversion begins: it takes its code now, and is stored 64 ticks later
-unfoldable pub begun : Board → Board
-begun b =
+-- the conversion at a place of its pass takes its code, and its slot is noted; after the last one of a pass the parity turns
+unfoldable pub code_taken : (index : ℕ) → Board → Board
+code_taken index b =
     record b {
-      held = code_at b.range b.registers b.gains b.inputs ((b.registers.start + b.cycle.index) % 32);
-      cycle = begun_cycle b.registers b.cycle;
+      taken = code_at b.range b.registers b.gains b.inputs ((b.registers.start + index) % 32);
+      cycle = record b.cycle {
+        waiting = true;
+        slot = (b.registers.start + index + (if is_differential b.registers && b.cycle.odd then 16 else 0)) % 32;
+        odd = if nat_le (plan_of b.registers).last index then not b.cycle.odd else b.cycle.odd;
+      };
     }
 
--- the cycle after its conversion in progress is stored; in single modes the board is idle from the last store of the pass on
-abbrev pub stored_cycle : Registers → Cycle → Cycle
-stored_cycle r c = if is_single r && c.ends then idle_cycle else record c { waiting = false }
+-- the next conversion begins
+abbrev pub begun : Board → Board
+begun b = with_timer (code_taken b.cycle.timer.index b) (begun_timer (plan_of b.registers) b.cycle.timer)
 
--- the store of the conversion in progress
-abbrev pub stored_in_time : Board → Board
-stored_in_time b = with_cycle (stored b.cycle.slot b.cycle.ends b) (stored_cycle b.registers b.cycle)
+-- the store of the conversion in progress; the last one of a single mode leaves nothing of the cycle
+abbrev pub stored_in_time : (ends : Bool) → Board → Board
+stored_in_time ends b =
+    with_cycle (stored b.cycle.slot ends b)
+    (if is_single b.registers && ends then record idle_cycle { timer = b.cycle.timer } else record b.cycle { waiting = false })
 
--- one tick passes in the cycle
-abbrev pub elapsed : Cycle → Cycle
-elapsed c = record c { lead = c.lead - 1; lag = c.lag - 1 }
+-- ---- time
 
--- in the tick to come the conversion in progress is stored; the next one begins
-abbrev pub is_store_due : Board → Bool
-is_store_due b = b.cycle.running && is_timed b.registers && b.cycle.lag == 1
+-- what a beginning and a store of a scan do to a board, beside what they do to its timer
+abbrev pub board_effects : Effects Board
+board_effects = record { taken = code_taken; stored = stored_in_time }
 
-abbrev pub is_beginning_due : Board → Bool
-is_beginning_due b = b.cycle.running && is_timed b.registers && b.cycle.lead == 1
+-- a board as a scan (schedule), and a scan as a board: the timer is the scan's, whatever is in its board
+abbrev pub scan_of : Board → Scan Board
+scan_of b = scan b.cycle.timer b
 
--- in one tick a store comes before a beginning
-abbrev pub stored_if_due : (due : Bool) → Board → Board
-stored_if_due due b = if due then stored_in_time b else b
+abbrev pub scanned : Scan Board → Board
+scanned s = with_timer s.board s.timer
 
-abbrev pub begun_if_due : (due : Bool) → Board → Board
-begun_if_due due b = if due && b.cycle.running then begun b else b
-
-unfoldable pub ticked : Board → Board
-ticked b =
-    if b.cycle.running
-    then begun_if_due (is_beginning_due b) (stored_if_due (is_store_due b) (with_cycle b (elapsed b.cycle)))
+-- n ticks: in a mode in time those of the scan, one by one; in external trigger only they count down to the next trigger
+unfoldable pub advanced : (n : ℕ) → Board → Board
+advanced n b =
+    if is_timed b.registers then scanned (schedule.advanced (plan_of b.registers) board_effects n (scan_of b))
+    else if b.cycle.timer.running then with_timer b (elapsed_by n b.cycle.timer)
     else b
 
--- n ticks, and the stores made in them
-unfoldable pub advanced : (n : ℕ) → Board → Board
-advanced zero b = b
-advanced (suc n) b = advanced n (ticked b)
-
+-- and the stores made in them
 unfoldable pub stores_in : (n : ℕ) → Board → ℕ
-stores_in zero b = 0
-stores_in (suc n) b = (if is_store_due b then 1 else 0) + stores_in n (ticked b)
-
--- the first of n more ticks that makes a store, where `passed` ticks have passed; 0 if none of them does
-unfoldable pub first_store : (n passed : ℕ) → Board → ℕ
-first_store zero passed b = 0
-first_store (suc n) passed b = if is_store_due b then suc passed else first_store n (suc passed) (ticked b)
+stores_in n b = if is_timed b.registers then schedule.stores_in (plan_of b.registers) board_effects n (scan_of b) else 0
 
 -- the ticks to the next store if only time passes; 0 if the longest advance makes none
 abbrev pub next_store : Board → ℕ
-next_store b = first_store 16_777_216 0 b
+next_store b = if is_timed b.registers then schedule.first_store (plan_of b.registers) board_effects 16_777_216 0 (scan_of b) else 0
 
 -- ticks of which 0 says that there are none, as the code has them
 abbrev pub if_any : (ticks : ℕ) → Option ℕ
@@ -135,17 +116,7 @@ if_any ticks = if ticks == 0 then None else Some ticks
 
 -- a cycle with no conversion begun
 abbrev pub fresh_cycle : Registers → Cycle
-fresh_cycle r =
-    record {
-      running = true;
-      lead = if is_uniform r then interval r else 0;
-      lag = 0;
-      waiting = false;
-      slot = 0;
-      ends = false;
-      index = 0;
-      odd = false;
-    }
+fresh_cycle r = record idle_cycle { timer = started_timer (plan_of r) }
 
 -- a cycle starts: all New and Missed bits clear
 abbrev pub restarted : Board → Board
@@ -157,7 +128,7 @@ started b = if is_burst b.registers then begun (restarted b) else restarted b
 
 -- a trigger that is taken: first the store of the conversion before, then the next one's code
 abbrev pub trigger_taken : Board → Board
-trigger_taken b = begun (if b.cycle.waiting then stored b.cycle.slot b.cycle.ends b else b)
+trigger_taken b = begun (if b.cycle.waiting then stored b.cycle.slot b.cycle.timer.ends b else b)
 
 -- a trigger before arming: it begins an armed cycle and clears no bit. It stores the code last taken since reset, 0 if none, in the
 -- Start Channel's slot, as a store that ends no pass, and takes conversion 0
@@ -177,9 +148,9 @@ triggered_idle b =
 unfoldable pub triggered : Board → Board
 triggered b =
     let r : Registers = b.registers in
-    let taken : Bool = is_trigger_only r && b.cycle.lag == 0 in
+    let is_taken : Bool = is_trigger_only r && b.cycle.timer.lag == 0 in
     if trigger_field r.control == 1
-    then (if b.cycle.running then (if taken then trigger_taken b else b) else triggered_idle b)
+    then (if b.cycle.timer.running then (if is_taken then trigger_taken b else b) else triggered_idle b)
     else b
 
 -- a look changes nothing, a clear drops New and Missed of its slot
@@ -241,7 +212,7 @@ value_of_call b _ = 0
 
 -- the questions of a call on this board
 abbrev pub questions_of : Board → Call → List Question
-questions_of b call = call_questions b.registers b.gains (not b.cycle.running) call
+questions_of b call = call_questions b.registers b.gains (not b.cycle.timer.running) call
 
 -- a call; one that is refused leaves the board as it was
 unfoldable pub board_call : Board → Call → Reply

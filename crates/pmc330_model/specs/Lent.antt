@@ -36,13 +36,16 @@ registers_in words =
 abbrev pub cycle_in : (words : List ℕ) → Cycle
 cycle_in words =
     record {
-      running = flag_at words 9;
-      lead = word_at words 10;
-      lag = word_at words 11;
+      timer =
+          record {
+            running = flag_at words 9;
+            lead = word_at words 10;
+            lag = word_at words 11;
+            ends = flag_at words 14;
+            index = byte_at words 15;
+          };
       waiting = flag_at words 12;
       slot = byte_at words 13;
-      ends = flag_at words 14;
-      index = byte_at words 15;
       odd = flag_at words 16;
     }
 
@@ -57,7 +60,7 @@ board_in words inputs gains codes unread =
       unread = unread;
       pending = flag_at words 7;
       registers = registers_in words;
-      held = half_at words 8;
+      taken = half_at words 8;
       cycle = cycle_in words;
     }
 
@@ -72,14 +75,14 @@ words_of b =
     ∷ b.registers.start
     ∷ b.registers.end
     ∷ to_bit b.pending
-    ∷ b.held
-    ∷ to_bit b.cycle.running
-    ∷ b.cycle.lead
-    ∷ b.cycle.lag
+    ∷ b.taken
+    ∷ to_bit b.cycle.timer.running
+    ∷ b.cycle.timer.lead
+    ∷ b.cycle.timer.lag
     ∷ to_bit b.cycle.waiting
     ∷ b.cycle.slot
-    ∷ to_bit b.cycle.ends
-    ∷ b.cycle.index
+    ∷ to_bit b.cycle.timer.ends
+    ∷ b.cycle.timer.index
     ∷ to_bit b.cycle.odd
     ∷ []
 

@@ -5,9 +5,9 @@ pub mod Plan
 pub mod Calls
 pub mod Questions
 pub mod Board
-pub mod Jumps
+pub mod NextStore
 pub mod Lent
 pub mod Logbook
 pub mod Sentences
-pub mod Waiting
+pub mod ChannelWait
 pub mod Bench

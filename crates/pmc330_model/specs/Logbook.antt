@@ -25,9 +25,9 @@ pub data Event : Type 0 where
   store : Store → Event
 
 -- the running cycle, if any: T, the tick at which it started, and the ticks of the triggers taken in it, the latest first
-pub data Running : Type 0 where
-  idle : Running
-  since : (T : ℕ) (triggers : List ℕ) → Running
+pub data CycleSince : Type 0 where
+  idle : CycleSince
+  since : (T : ℕ) (triggers : List ℕ) → CycleSince
 
 -- the registers are as they were written; `taken` is the code last taken; of the events the latest comes first
 pub record Logbook : Type 0 where
@@ -37,7 +37,7 @@ pub record Logbook : Type 0 where
   pub inputs : List ℤ
   pub tick : ℕ
   pub taken : ℕ
-  pub cycle : Running
+  pub cycle : CycleSince
   pub events : List Event
 
 -- it opens with the range, no cycle, the event of a reset, and all else 0
@@ -101,7 +101,7 @@ logbook_view l =
 -- ---- what happens in it
 
 -- the logbook with another tick, cycle, code last taken and events
-abbrev pub with_happened : Logbook → (tick taken : ℕ) → Running → List Event → Logbook
+abbrev pub with_happened : Logbook → (tick taken : ℕ) → CycleSince → List Event → Logbook
 with_happened l tick taken cycle events =
     record l { tick = tick; taken = taken; cycle = cycle; events = events }
 
@@ -136,7 +136,7 @@ stores_in_time k l =
 
 -- the conversion k of the schedule with T + its beginning + delay = tick, if any.
 -- Conversion k begins at T + k or later, so that the numbers up to the tick are enough to search: `InCycle` in Sentences states it
-unfoldable pub due_after : (delay : ℕ) → Registers → (tick : ℕ) → Running → Option ℕ
+unfoldable pub due_after : (delay : ℕ) → Registers → (tick : ℕ) → CycleSince → Option ℕ
 due_after delay r tick idle = None
 due_after delay r tick (since T triggers) =
     first_from (λ k. is_scheduled r k && T + begins_at r k + delay == tick) (suc tick) 0
@@ -194,7 +194,7 @@ arms_by_trigger l = takes_code l.tick [] (stores_at l.registers.start false l)
 
 -- idle: in external trigger only the trigger arms if question 9 is met, in scan 001 to 100 it starts a cycle if 9 and 10 are met.
 -- Running: in external trigger only it may be taken. Otherwise it is ignored
-abbrev pub triggered_in : Running → Logbook → Logbook
+abbrev pub triggered_in : CycleSince → Logbook → Logbook
 triggered_in idle l =
     if is_trigger_only l.registers then (if has_channels l.registers then arms_by_trigger l else l)
     else if is_timed l.registers && has_channels l.registers && has_interval l.registers then starts l
@@ -238,7 +238,7 @@ happens l (look slot) = l
 happens l (clear slot) = with_happened l l.tick l.taken l.cycle (was_read slot ∷ l.events)
 
 -- the questions are asked of what it holds
-abbrev pub is_idle : Running → Bool
+abbrev pub is_idle : CycleSince → Bool
 is_idle idle = true
 is_idle (since T triggers) = false
 

@@ -1,5 +1,5 @@
--- The sentences of the data sheet; how long a channel waits is in Waiting.antt. Each `Every..` is proved in proofs/Sentences.antt, those
--- of the next store in proofs/NextStores.antt, those of looks and clears in proofs/Looks.antt.
+-- The sentences of the data sheet; how long a channel waits is in ChannelWait.antt. Each `Every..` is proved in
+-- proofs/Sentences.antt, those of the next store in proofs/NextStores.antt, those of looks and clears in proofs/Looks.antt.
 use Rattle.std.specs.Prelude.{ℕ, suc, ◌+◌, ◌-◌, ◌*◌, ◌/◌, ◌%◌, ◌≤◌, ◌<◌, Bool, true, false, not, ◌&&◌, List, [], ◌∷◌, ◌++◌, ◌≡◌, length, set, replicate, ℤ, pos, Some, Ok, Err, if◌then◌else◌, ◌==◌, nat_le}
 use Rattle.analog.specs.Answers.{Question, all_met, value_of, is_accepted}
 use Rattle.analog.specs.Sentences.{AnsweredBy}
@@ -26,7 +26,7 @@ pub record Sentence1 (questions : List Question) (b : Board) (call : Call) : Typ
 -- on every board: the questions are asked of its registers, its gains and whether a cycle runs
 abbrev pub EveryCall1 : Type 0
 EveryCall1 =
-    (b : Board) (call : Call) → Sentence1 (call_questions b.registers b.gains (not b.cycle.running) call) b call
+    (b : Board) (call : Call) → Sentence1 (call_questions b.registers b.gains (not b.cycle.timer.running) call) b call
 
 -- after every list of calls: the questions are asked of what the logbook of the list holds, so that "idle" is the logbook's word
 abbrev pub AfterList1 : (b : Board) → Logbook → Call → Type 0

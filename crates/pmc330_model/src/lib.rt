@@ -4,6 +4,7 @@
 pub mod theorems;
 
 use analog::Answer;
+use schedule::Timer;
 
 /// What a byte offset below 256 belongs to (data sheet, "Register map"): New Data and Missed Data have two words, Gain four,
 /// and there are 32 mailboxes.
@@ -49,21 +50,13 @@ pub struct Registers {
 /// The default is the idle cycle.
 #[derive(Clone, Copy, Debug, Default, PartialEq, Eq)]
 pub struct Cycle {
-    /// Not idle.
-    pub running: bool,
-    /// Ticks to the next beginning; 0: none to come.
-    pub lead: u32,
-    /// Ticks left of the conversion in progress, or in external trigger only until a trigger may be taken; 0: none.
-    pub lag: u32,
+    /// It runs while a cycle does. In external trigger only `lead` is 0, and `lag` the ticks until a trigger may be taken.
+    pub timer: Timer,
     /// A code was taken in this cycle and is not stored yet.
     pub waiting: bool,
     /// The slot of that code.
     pub slot: u8,
-    /// Whether its store ends a pass.
-    pub ends: bool,
-    /// The next conversion's place in its pass, from 0.
-    pub index: u8,
-    /// Whether that pass is odd.
+    /// Whether the pass of the next conversion is odd.
     pub odd: bool,
 }
 
@@ -84,7 +77,7 @@ pub struct Board {
     pub pending: bool,
     pub registers: Registers,
     /// The straight code last taken since the last reset, 0 if none.
-    pub held: u16,
+    pub taken: u16,
     pub cycle: Cycle,
 }
 

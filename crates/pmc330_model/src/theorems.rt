@@ -3,7 +3,7 @@
 #![tactic(auto)]
 
 ghost use Rattle.pmc330_model.specs.Sentences.{EveryCall1, EveryList1, EveryNew1, EveryAnswer, EveryList3, EveryOpening, EverySchedule, EveryStart, EveryTick, EveryPair, EveryAdvances, EveryNextStore, EveryLastStore, EveryLook, EveryLookShown, EverySlotLogged, EveryMailboxRead};
-ghost use Rattle.pmc330_model.specs.Waiting.{EveryWait, EverySlotWait, EveryBurstWait, ShortMisses, NoShorterWait};
+ghost use Rattle.pmc330_model.specs.ChannelWait.{EveryWait, EverySlotWait, EveryBurstWait, ShortMisses, NoShorterWait};
 ghost use Rattle.pmc330_model.specs.Bench.{BenchCases};
 
 /// Sentence 1 on every board: a call is refused exactly if one of its questions is answered with no. It then gives the

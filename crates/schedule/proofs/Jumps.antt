@@ -29,7 +29,7 @@ not_due : (n count : ℕ) → Within (suc (suc n)) count → eqb count 1 ≡ fal
 not_due n count h = grind arith
 
 module _ {B : Type 0} (p : Plan) (e : Effects B) where
-  ticked_is : (s : Scan B) → s.timer.running ≡ true → ticked p e s ≡ jumped p e 1 s
+  pub ticked_is : (s : Scan B) → s.timer.running ≡ true → ticked p e s ≡ jumped p e 1 s
   unfolding ticked
   ticked_is s running = grind arith
 

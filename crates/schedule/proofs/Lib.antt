@@ -6,5 +6,7 @@ pub mod Places
 pub mod Schedule
 pub mod Standing
 pub mod Conversions
+pub mod NextStores
+pub mod Bounds
 pub mod Times
 pub mod Sentences

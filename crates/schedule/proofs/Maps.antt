@@ -1,11 +1,11 @@
 -- A scan of one board seen as a scan of another, and what a scan leaves as it was.
 use mathlib.Core.Bool.{Bool, true, false, cond, ◌&&◌}
 use mathlib.Core.Path.{◌≡◌, refl, ap, ◌∙◌}
-use Prim.Native.Nat.{ℕ, zero, suc}
+use Prim.Native.Nat.{ℕ, zero, suc, ◌+◌}
 use native.Mathlib.Omega.{arith}
 use lib.Dec.{eqb}
 use Rattle.schedule.specs.Timer.{begun_timer, stored_timer}
-use Rattle.schedule.specs.Scan.{Effects, Scan, scan, elapsed, store_if, begin_if, ticked, advanced}
+use Rattle.schedule.specs.Scan.{Effects, Scan, scan, elapsed, store_if, begin_if, is_store_due, ticked, advanced, stores_in}
 use Rattle.schedule.specs.declared.Plan.{Plan}
 
 module _ {A : Type 0} {B : Type 0} (p : Plan) (ea : Effects A) (eb : Effects B) (h : A → B)
@@ -40,6 +40,12 @@ module _ {A : Type 0} {B : Type 0} (p : Plan) (ea : Effects A) (eb : Effects B) 
   unfolding advanced
   advanced_seen zero s = refl
   advanced_seen (suc n) s = advanced_seen n (ticked p ea s) ∙ ap (advanced p eb n) (tick_seen s)
+
+  pub stores_seen : (n : ℕ) (s : Scan A) → stores_in p ea n s ≡ stores_in p eb n (seen s)
+  unfolding stores_in
+  stores_seen zero s = refl
+  stores_seen (suc n) s =
+      ap (λ (k : ℕ). cond (is_store_due s) 1 0 + k) (stores_seen n (ticked p ea s) ∙ ap (stores_in p eb n) (tick_seen s))
 
 -- what no beginning and no store changes
 module _ {A : Type 0} {B : Type 0} (p : Plan) (e : Effects A) (f : A → B)

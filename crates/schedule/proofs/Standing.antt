@@ -16,6 +16,22 @@ use Rattle.schedule.specs.declared.Timer.{Timer}
 use Rattle.schedule.proofs.Places.{next_place, first_place}
 use Rattle.schedule.proofs.Schedule.{inside_or_ends, ends_is, inside_is, step_after, step, step_long, before, unscheduled_later, scheduled_next, scheduled_first, begins_first, due_found, due_none}
 
+-- the timer after conversion k began, of whatever plan
+module _ (p : Plan) (k : ℕ) (u : Timer) (at : u.index ≡ k % length_of p) where
+  pub begun_ends : (begun_timer p u).ends ≡ ends_pass p k
+  begun_ends = go (inside_or_ends p k)
+    where
+      go : (suc (k % length_of p) ≡ length_of p) ⊎ (suc (k % length_of p) < length_of p) → leb p.last u.index ≡ ends_pass p k
+      go (inl e) = rw (ends_is p k e, at) (grind arith)
+      go (inr h) = rw (inside_is p k h, at) (grind arith)
+
+  pub begun_index : (begun_timer p u).index ≡ suc k % length_of p
+  begun_index = ap (λ (ends : Bool). cond ends 0 (u.index + 1)) begun_ends ∙ go (inside_or_ends p k)
+    where
+      go : (suc (k % length_of p) ≡ length_of p) ⊎ (suc (k % length_of p) < length_of p) → cond (ends_pass p k) 0 (u.index + 1) ≡ suc k % length_of p
+      go (inl e) = rw (ends_is p k e) (sym (first_place k (length_of p) e))
+      go (inr h) = rw (inside_is p k h, at) (omega (arith, next_place k (length_of p) h))
+
 module _ (p : Plan) (apart : IsApart p) (start : ℕ) where
   -- every conversion before the next one has begun
   began_before : (tick k : ℕ) (t : Timer) → InFlight p start tick k t ⊎ AllStored p start tick k t → (i : ℕ) → i < k → start + begins p i ≤ tick
@@ -32,25 +48,11 @@ module _ (p : Plan) (apart : IsApart p) (start : ℕ) where
   -- a conversion that begins at its tick leaves the timer where it should stand
   module _ (tick k : ℕ) (u : Timer) (running : u.running ≡ true) (at : u.index ≡ k % length_of p) (scheduled : is_scheduled p k ≡ true)
       (now : start + begins p k ≡ tick) where
-    begun_ends : (begun_timer p u).ends ≡ ends_pass p k
-    begun_ends = go (inside_or_ends p k)
-      where
-        go : (suc (k % length_of p) ≡ length_of p) ⊎ (suc (k % length_of p) < length_of p) → leb p.last u.index ≡ ends_pass p k
-        go (inl e) = rw (ends_is p k e, at) (grind arith)
-        go (inr h) = rw (inside_is p k h, at) (grind arith)
-
-    begun_index : (begun_timer p u).index ≡ suc k % length_of p
-    begun_index = ap (λ (ends : Bool). cond ends 0 (u.index + 1)) begun_ends ∙ go (inside_or_ends p k)
-      where
-        go : (suc (k % length_of p) ≡ length_of p) ⊎ (suc (k % length_of p) < length_of p) → cond (ends_pass p k) 0 (u.index + 1) ≡ suc k % length_of p
-        go (inl e) = rw (ends_is p k e) (sym (first_place k (length_of p) e))
-        go (inr h) = rw (inside_is p k h, at) (omega (arith, next_place k (length_of p) h))
-
     next_after : ToCome p start tick (suc k) (begun_timer p u) ⊎ NoMore p (suc k) (begun_timer p u)
     next_after = go (p.single && ends_pass p k) refl
       where
         lead : (begun_timer p u).lead ≡ cond (p.single && ends_pass p k) 0 (step_after p (ends_pass p k))
-        lead = ap (λ (ends : Bool). cond (p.single && ends) 0 (cond ends p.turn p.step)) begun_ends
+        lead = ap (λ (ends : Bool). cond (p.single && ends) 0 (cond ends p.turn p.step)) (begun_ends p k u at)
 
         go : (over : Bool) → (p.single && ends_pass p k) ≡ over → ToCome p start tick (suc k) (begun_timer p u) ⊎ NoMore p (suc k) (begun_timer p u)
         go true e =
@@ -68,7 +70,7 @@ module _ (p : Plan) (apart : IsApart p) (start : ℕ) where
     begun_stands =
         record {
           running = running;
-          index = begun_index;
+          index = begun_index p k u at;
           next = next_after;
           flight =
               inl
@@ -79,7 +81,7 @@ module _ (p : Plan) (apart : IsApart p) (start : ℕ) where
                 some = apart.some;
                 most = omega arith;
                 due = omega arith;
-                ends = begun_ends;
+                ends = begun_ends p k u at;
               });
         }
 

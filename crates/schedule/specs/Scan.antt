@@ -65,3 +65,9 @@ advanced p e (suc n) s = advanced p e n (ticked p e s)
 unfoldable pub stores_in : {B : Type 0} → Plan → Effects B → (n : ℕ) → Scan B → ℕ
 stores_in p e zero s = 0
 stores_in p e (suc n) s = (if is_store_due s then 1 else 0) + stores_in p e n (ticked p e s)
+
+-- the first of n more ticks that makes a store, where `passed` ticks have passed; 0 if none of them does
+unfoldable pub first_store : {B : Type 0} → Plan → Effects B → (n passed : ℕ) → Scan B → ℕ
+first_store p e zero passed s = 0
+first_store p e (suc n) passed s =
+    if is_store_due s then suc passed else first_store p e n (suc passed) (ticked p e s)

@@ -178,9 +178,10 @@ fn convert<S: Sink>(plan: Plan, timer: Timer, sink: &mut S) -> Timer
     timer.begun(plan)
 }
 
-// Whether these two come next, with nothing between them, in the ticks that are left.
+/// Whether the store of the conversion in progress and the next beginning come next, with nothing between them, in the ticks that
+/// are left: `run` takes these two in one step.
 #[inline(always)]
-fn converts(plan: Plan, left: u32, timer: Timer) -> bool
+pub fn converts(plan: Plan, left: u32, timer: Timer) -> bool
     ensures { result ≡ converts plan left timer }
 {
     0 < timer.lag && timer.lag <= timer.lead && timer.lead <= left && !(plan.single && timer.ends)

@@ -44,7 +44,7 @@ abbrev later : After-word_write-write → List Question
 later c =
     let r : Registers = c.from-core.result.registers in
     let write = c.word_write-write.result in
-    word_questions r (not c.from-core.result.cycle.running) write.register write.word (with_word write.register write.word r)
+    word_questions r (not c.from-core.result.cycle.timer.running) write.register write.word (with_word write.register write.word r)
 
 questions_left :
     (c : After-word_write-write) {result : Result ⊤ Refusal}

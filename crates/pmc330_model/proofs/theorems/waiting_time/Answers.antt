@@ -1,4 +1,4 @@
-use Rattle.pmc330_model.proofs.Waiting.{waiting_time}
+use Rattle.pmc330_model.proofs.ChannelWait.{waiting_time}
 use Rattle.pmc330_model.proofs.theorems.waiting_time.Goals as goal
 
 pub returns : goal.returns

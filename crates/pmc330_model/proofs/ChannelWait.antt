@@ -20,9 +20,9 @@ use Rattle.pmc330_model.specs.Words.{with_word, is_stop, is_start, joined, held_
 use Rattle.pmc330_model.specs.Schedule.{pass_length, is_differential, is_uniform, is_single, is_continuous, is_timed, is_trigger_only, is_burst, channel_of, slot_of, ends_pass, begins_at, pass_ticks, is_scheduled}
 use Rattle.pmc330_model.specs.Calls.{Call, read, write, input, advance, trigger, reset, look, clear}
 use Rattle.pmc330_model.specs.Questions.{is_allowed, resulting_word, call_questions}
-use Rattle.pmc330_model.specs.Logbook.{Event, Store, Running, idle, since, cycle_start, store, store_at, Logbook, stores, due_after, if_due, tick_passes, ticks_pass, starts, trigger_comes, writes, happens, is_idle, logbook_questions, logged, logged_from, new_logbook}
+use Rattle.pmc330_model.specs.Logbook.{Event, Store, CycleSince, idle, since, cycle_start, store, store_at, Logbook, stores, due_after, if_due, tick_passes, ticks_pass, starts, trigger_comes, writes, happens, is_idle, logbook_questions, logged, logged_from, new_logbook}
 use Rattle.pmc330_model.specs.Sentences.{stops_or_resets}
-use Rattle.pmc330_model.specs.Waiting.{runs_on, CycleList, at_start, at_end, registers_of, RunsContinuously, Span, covers, any_store, span_stores, Scanned, is_slot_of, ChannelWaits, EveryWait, slot_passes, EverySlotWait, EveryBurstWait, short_list, ShortMisses, NoShorterWait}
+use Rattle.pmc330_model.specs.ChannelWait.{runs_on, CycleList, at_start, at_end, registers_of, RunsContinuously, Span, covers, any_store, span_stores, Scanned, is_slot_of, ChannelWaits, EveryWait, slot_passes, EverySlotWait, EveryBurstWait, short_list, ShortMisses, NoShorterWait}
 use Rattle.pmc330_model.specs.Board.{board_after}
 use Rattle.pmc330_model.specs.declared.Registers.{Registers}
 use Rattle.pmc330_model.proofs.Agreement.{Startable}
@@ -247,7 +247,7 @@ module _ (r : Registers) (T : ℕ) (startable : Startable r) (continuous : is_co
   started_runs : (l : Logbook) → l.tick ≡ T → l.registers ≡ r → Runs (starts l)
   started_runs l at same =
       record {
-        cycle = start_cycle (λ (c : Running). c ≡ since T []) l (ap (λ (tick : ℕ). since tick []) at);
+        cycle = start_cycle (λ (c : CycleSince). c ≡ since T []) l (ap (λ (tick : ℕ). since tick []) at);
         enable = r.enable;
         registers = start_registers l ∙ same;
         stored = λ k made. absurd (omega (arith, (start_still l).tick));
@@ -298,7 +298,7 @@ module _ (l : Logbook) (stood : is_idle l.cycle ≡ true) where
     happens_starts (write width offset value) =
         write_starts (class_of offset) (resulting_word l.registers l.gains width offset value)
     happens_starts (input channel microvolts) = stands _ stood
-    happens_starts (advance ticks) = stands _ (ticks_cycle (λ (c : Running). is_idle c ≡ true) refl ticks l stood)
+    happens_starts (advance ticks) = stands _ (ticks_cycle (λ (c : CycleSince). is_idle c ≡ true) refl ticks l stood)
     happens_starts trigger =
         triggered Started l (stands l stood) (λ e other busy. refl) (λ e only. cc)
         (λ T triggers e. cc)
@@ -328,7 +328,7 @@ module _ (c : CycleList) (runs : RunsContinuously c) where
       let related = related_call (at_start c) (board_after c.range c.before) (after c.range c.before) c.start in
       subst Startable (ap (λ (l : Logbook). l.registers) starts_is ∙ start_registers (at_start c))
       (running_startable (logged (at_start c) c.start) _ related (at_start c).tick []
-      (ap (λ (l : Logbook). l.cycle) starts_is ∙ start_cycle (λ (cycle : Running). cycle ≡ since (at_start c).tick []) (at_start c) refl))
+      (ap (λ (l : Logbook). l.cycle) starts_is ∙ start_cycle (λ (cycle : CycleSince). cycle ≡ since (at_start c).tick []) (at_start c) refl))
 
   abbrev RunsHere : Logbook → Type 0
   RunsHere = Runs (registers_of c) (at_start c).tick startable runs.mode

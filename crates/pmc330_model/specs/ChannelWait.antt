@@ -1,6 +1,6 @@
 -- How long a channel waits for its next store; beside it the wait of a slot, that of a channel in burst mode, and that no figure below
 -- 64 would hold for both modes. Stores are events of the logbook, to which sentences 2 and 3 hold the board. Proved in
--- proofs/Waiting.antt.
+-- proofs/ChannelWait.antt.
 use Rattle.std.specs.Prelude.{ℕ, ◌+◌, ◌*◌, ◌≤◌, ◌<◌, Bool, true, false, not, ◌&&◌, ◌||◌, List, [], ◌∷◌, ◌++◌, ◌≡◌, if◌then◌else◌, ◌==◌, nat_le, nat_lt}
 use Rattle.pmc330_model.specs.Schedule.{is_uniform, is_burst, is_continuous, is_differential, slot_of, pass_ticks}
 use Rattle.pmc330_model.specs.Calls.{Call, write, advance}
