@@ -43,29 +43,15 @@ fn archive_folder() -> PathBuf {
     }
 }
 
-/// The header's own lines of C, which `tools/pmc330.c` makes callable, as Python calls them; and what
-/// `src/archive/header.c` says of the header beside.
+/// What `src/archive/header.c` says of the header.
 fn link_header() {
     println!(
         "cargo:rerun-if-changed={}",
         include().join("pmc330.h").display()
     );
-    let root = package().join("..");
-    link_source("pmc330_lines", &root.join("tools").join("pmc330.c"));
-    link_source(
-        "pmc330_header",
-        &package().join("src").join("archive").join("header.c"),
-    );
-}
-
-fn include() -> PathBuf {
-    package().join("..").join("include")
-}
-
-/// A source in C over the header, as a library of this name.
-fn link_source(name: &str, source: &Path) {
+    let source = package().join("src").join("archive").join("header.c");
     println!("cargo:rerun-if-changed={}", source.display());
-    let object = out().join(format!("{name}.o"));
+    let object = out().join("header.o");
     run(Command::new("cc")
         .args([
             "-std=c99",
@@ -81,7 +67,11 @@ fn link_source(name: &str, source: &Path) {
         .arg(source)
         .arg("-o")
         .arg(&object));
-    archived(&object, name);
+    archived(&object, "pmc330_header");
+}
+
+fn include() -> PathBuf {
+    package().join("..").join("include")
 }
 
 /// One object as a library to be linked.

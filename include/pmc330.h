@@ -19,9 +19,10 @@ extern "C" {
 /* ---- Version ----
    The meaning of a pmc330_board's bytes. It goes up when that changes, and only then; names and functions may be
    added under the same version. Save it beside a saved board, and do not restore a board that was saved under
-   another: its bytes then hold some other board. Nothing would fail, but make the calls again instead.
+   another: its bytes then hold some other board. Nothing would fail, but make the calls again instead. A board of
+   version 1 had 324 bytes, with other fields: refuse one that was saved so.
    Header and archive belong together: take both from the same release. */
-#define PMC330_VERSION 1U
+#define PMC330_VERSION 2U
 
 /* ---- What the board does, in short ----
    A start begins a cycle: passes over the channels Start to End, in turn. With I = prescaler * timer, in ticks,
@@ -219,106 +220,85 @@ extern "C" {
 
 /* ---- A board that a simulator holds ----
    The caller owns the memory: a board is this struct and nothing else, wherever C lets it lie. It holds numbers and
-   no pointer, 324 bytes and no padding: boards of equal bytes are the same board. Copying it saves the board, copying
+   no pointer, 284 bytes and no padding: boards of equal bytes are the same board. Copying it saves the board, copying
    it back, to any place, restores it; in a file its bytes are in the machine's own order. Nothing is kept behind the
    caller's back, so any number of boards may be used, and from several threads, as long as no two calls share one at
    a time.
-   pmc330_open comes first, on memory with any contents. The fields are the part's own, not to be read or written;
-   but whatever they contain, every call answers and ends, and a refused call leaves every byte as it was. */
+   pmc330_open comes first, on memory with any contents. The fields are the part's own: a debugger shows them, a program
+   does not write them. A flag is set by any byte but 0. Any bytes are a board: whatever the fields contain, every call
+   answers and ends, and a refused call leaves every byte as it was. */
 typedef struct pmc330_board {
-    uint32_t words[17];
-    int32_t inputs[32];
-    uint8_t gains[32];
-    uint16_t codes[32];
-    uint8_t unread[32];
+    int32_t inputs[32];  /* at each channel's input, microvolts */
+    uint32_t lead;       /* ticks to the next beginning of a conversion; 0: none is to come */
+    uint32_t lag;        /* ticks to the store of the conversion in progress, in external trigger only until a trigger
+                            may be taken; 0: none */
+    uint16_t codes[32];  /* in each slot's mailbox, in the format that it was stored in */
+    uint16_t control;    /* the word of Control */
+    uint16_t timer;      /* Timer; times the prescaler it is ticks */
+    uint16_t taken;      /* the straight code last taken */
+    uint8_t gains[32];   /* gain field of each channel, 0 to 3 */
+    uint8_t unread[32];  /* stores in each slot since its last read, up to 2: New from 1, Missed at 2 */
+    uint8_t range;       /* 0 to 3, PMC330_RANGE_.. */
+    uint8_t prescaler;   /* Prescaler */
+    uint8_t start;       /* first channel */
+    uint8_t end;         /* last channel */
+    uint8_t enable;      /* flag: board enable of Interrupt */
+    uint8_t pending;     /* flag: an interrupt is pending */
+    uint8_t running;     /* flag: a cycle runs or is armed */
+    uint8_t waiting;     /* flag: a code was taken and is not stored yet */
+    uint8_t slot;        /* of that code: its slot */
+    uint8_t ends;        /* of that code, flag: its store ends a pass */
+    uint8_t index;       /* the next conversion's place in its pass, from 0 */
+    uint8_t odd;         /* flag: that pass is the second, fourth, .. of the cycle */
+    uint16_t spare;      /* fills the struct and means nothing: pmc330_open sets it to 0, and no other call reads or writes it */
 } pmc330_board;
 
 /* Refused by a compiler that lays the struct out in another way. */
-typedef char pmc330_board_has_324_bytes[sizeof(pmc330_board) == 324 ? 1 : -1];
-
-/* The archive's own functions, on a board's parts. Not to be called in C: those after them are, one line each. */
-uint64_t pmc330_parts_open(uint32_t words[17], int32_t inputs[32], uint8_t gains[32], uint16_t codes[32],
-                           uint8_t unread[32], uint32_t range);
-uint64_t pmc330_parts_read(const uint32_t words[17], const int32_t inputs[32], const uint8_t gains[32],
-                           const uint16_t codes[32], uint8_t unread[32], uint32_t width, uint32_t offset);
-uint64_t pmc330_parts_write(uint32_t words[17], const int32_t inputs[32], uint8_t gains[32], const uint16_t codes[32],
-                            uint8_t unread[32], uint32_t width, uint32_t offset, uint32_t value);
-uint64_t pmc330_parts_input(const uint32_t words[17], int32_t inputs[32], const uint8_t gains[32],
-                            const uint16_t codes[32], const uint8_t unread[32], uint32_t channel, int32_t microvolts);
-uint64_t pmc330_parts_advance(uint32_t words[17], const int32_t inputs[32], const uint8_t gains[32],
-                              uint16_t codes[32], uint8_t unread[32], uint32_t ticks);
-uint64_t pmc330_parts_trigger(uint32_t words[17], const int32_t inputs[32], const uint8_t gains[32],
-                              uint16_t codes[32], uint8_t unread[32]);
-uint64_t pmc330_parts_reset(uint32_t words[17], const int32_t inputs[32], uint8_t gains[32], uint16_t codes[32],
-                            uint8_t unread[32]);
-uint64_t pmc330_parts_look(const uint16_t codes[32], const uint8_t unread[32], uint32_t slot);
-uint64_t pmc330_parts_clear(uint8_t unread[32], uint32_t slot);
-uint32_t pmc330_parts_line(const uint32_t words[17]);
-uint32_t pmc330_parts_next_store(const uint32_t words[17]);
+typedef char pmc330_board_has_284_bytes[sizeof(pmc330_board) == 284 ? 1 : -1];
 
 /* A new board of a range: idle, with all registers, bits, codes and inputs 0. A refusal (PMC330_BAD_RANGE) makes none:
    the struct is as it was. */
-static inline uint64_t pmc330_open(pmc330_board *board, uint32_t range) {
-    return pmc330_parts_open(board->words, board->inputs, board->gains, board->codes, board->unread, range);
-}
+uint64_t pmc330_open(pmc330_board *board, uint32_t range);
 
 /* A register read of width 8, 16 or 32; the value is what was read. A mailbox read clears its slot's New and Missed
    bits, and no other read changes the board; pmc330_look shows a mailbox and clears nothing. */
-static inline uint64_t pmc330_read(pmc330_board *board, uint32_t width, uint32_t offset) {
-    return pmc330_parts_read(board->words, board->inputs, board->gains, board->codes, board->unread, width, offset);
-}
+uint64_t pmc330_read(pmc330_board *board, uint32_t width, uint32_t offset);
 
 /* A register write of width 8, 16 or 32. */
-static inline uint64_t pmc330_write(pmc330_board *board, uint32_t width, uint32_t offset, uint32_t value) {
-    return pmc330_parts_write(board->words, board->inputs, board->gains, board->codes, board->unread, width, offset,
-                              value);
-}
+uint64_t pmc330_write(pmc330_board *board, uint32_t width, uint32_t offset, uint32_t value);
 
 /* The voltage at a channel, 0 to 31, in microvolts. It counts for conversions that begin in later calls; one due at
    the last tick of an advance has begun in that advance. */
-static inline uint64_t pmc330_input(pmc330_board *board, uint32_t channel, int32_t microvolts) {
-    return pmc330_parts_input(board->words, board->inputs, board->gains, board->codes, board->unread, channel,
-                              microvolts);
-}
+uint64_t pmc330_input(pmc330_board *board, uint32_t channel, int32_t microvolts);
 
 /* Time passes: 0 to PMC330_ADVANCE_MAX ticks; the value is the number of stores made in them. */
-static inline uint64_t pmc330_advance(pmc330_board *board, uint32_t ticks) {
-    return pmc330_parts_advance(board->words, board->inputs, board->gains, board->codes, board->unread, ticks);
-}
+uint64_t pmc330_advance(pmc330_board *board, uint32_t ticks);
 
 /* An external trigger. */
-static inline uint64_t pmc330_trigger(pmc330_board *board) {
-    return pmc330_parts_trigger(board->words, board->inputs, board->gains, board->codes, board->unread);
-}
+uint64_t pmc330_trigger(pmc330_board *board);
 
 /* A reset: a new board, but with its range and its inputs. */
-static inline uint64_t pmc330_reset(pmc330_board *board) {
-    return pmc330_parts_reset(board->words, board->inputs, board->gains, board->codes, board->unread);
-}
+uint64_t pmc330_reset(pmc330_board *board);
 
 /* A look at the mailbox of a slot, 0 to 31: the value is its code, with PMC330_LOOK_NEW and PMC330_LOOK_MISSED where
    these bits are set. It changes nothing: a front panel may look between any two calls, also while a cycle runs, and
    takes nothing from the driver that is still to read. The code is as it was stored, in Control's format then; 0 if
    nothing was stored there since the reset. */
-static inline uint64_t pmc330_look(const pmc330_board *board, uint32_t slot) {
-    return pmc330_parts_look(board->codes, board->unread, slot);
-}
+uint64_t pmc330_look(const pmc330_board *board, uint32_t slot);
 
 /* A clear of a slot, 0 to 31: drops its New and Missed bits, as a read of its mailbox does; the code stays. A look and
    then a clear leave the board as that read does, and a clear alone too. Pending stays; the value is 0. Accepted while a
    cycle runs. */
-static inline uint64_t pmc330_clear(pmc330_board *board, uint32_t slot) {
-    return pmc330_parts_clear(board->unread, slot);
-}
+uint64_t pmc330_clear(pmc330_board *board, uint32_t slot);
 
 /* The request line, 0 or 1: the interrupt is enabled and pending. */
-static inline uint32_t pmc330_line(const pmc330_board *board) { return pmc330_parts_line(board->words); }
+uint32_t pmc330_line(const pmc330_board *board);
 
 /* The ticks to the next store if only time passes, 0 if none is to come. An advance of fewer ticks makes no store,
    one of exactly that many is accepted and makes one; at 0 no advance makes any. It costs the same however far the
    store is. A simulator that jumps from next store to next store sees the line at each tick at which time moves it.
    (On contents that no calls led to, 0 says that one advance makes none.) */
-static inline uint32_t pmc330_next_store(const pmc330_board *board) { return pmc330_parts_next_store(board->words); }
+uint32_t pmc330_next_store(const pmc330_board *board);
 
 /* The two-point correction of one raw straight code to the nearest count.
      range      0: +-5 V, 1: +-10 V, 2: 0 to 5 V, 3: 0 to 10 V

@@ -20,6 +20,7 @@ import operator
 import os
 import pathlib
 import subprocess
+import sys
 import tempfile
 from typing import NamedTuple
 
@@ -240,23 +241,24 @@ class Board:
 
     def line(self):
         """Whether the board requests an interrupt: it is enabled and pending."""
-        return _part().header_line(self._contents) != 0
+        return _part().pmc330_line(self._contents) != 0
 
     def next_store(self):
         """The ticks to the next store if only time passes, 0 if none is to come."""
-        return _part().header_next_store(self._contents)
+        return _part().pmc330_next_store(self._contents)
 
     def save(self):
         """The whole board, as bytes."""
-        return _version() + bytes(self._contents)
+        return _VERSION.to_bytes(4, sys.byteorder) + bytes(self._contents)
 
     def restore(self, saved):
         """Makes this board the saved one, whatever it was."""
         saved = bytes(memoryview(saved))
+        version = int.from_bytes(saved[:4], sys.byteorder)
+        if len(saved) >= 4 and version != _VERSION:
+            raise ValueError(f"a board saved under version {version} of the part, not {_VERSION}: make its calls again instead")
         if len(saved) != 4 + ctypes.sizeof(_Contents):
             raise ValueError(f"no saved board: it has {len(saved)} bytes, not {4 + ctypes.sizeof(_Contents)}")
-        if saved[:4] != _version():
-            raise ValueError("a board saved under another version of the part: make its calls again instead")
         self._contents = _Contents.from_buffer_copy(saved[4:])
 
     def __reduce__(self):
@@ -268,7 +270,7 @@ class Board:
 
     def _call(self, name, *arguments):
         """A call's value. The result is 256 * value + number."""
-        value, number = divmod(getattr(_part(), f"header_{name}")(self._contents, *arguments), 256)
+        value, number = divmod(getattr(_part(), f"pmc330_{name}")(self._contents, *arguments), 256)
         if number != 0:
             raise Refused(number)
         return value
@@ -280,7 +282,8 @@ def _restored(saved):
     return board
 
 
-_Contents = ctypes.c_uint32 * 81  # the 324 bytes of a pmc330_board; what they mean is the part's own business
+_VERSION = 2  # PMC330_VERSION; in a saved board in the machine's order, as the numbers behind it are
+_Contents = ctypes.c_uint32 * 71  # the 284 bytes of a pmc330_board; what they mean is the part's own business
 
 
 def _unsigned(name, number):
@@ -323,7 +326,7 @@ def volts(code, range, gain=Gain.TIMES_1, format=Format.STRAIGHT):
 _ROOT = pathlib.Path(__file__).resolve().parent.parent
 _ARCHIVE = _ROOT / "target/staticlib/libpmc330_c.a"
 _SHARED = _ROOT / "target/python/pmc330.so"
-_SOURCES = [_ROOT / "tools/pmc330.c", _ROOT / "include/pmc330.h"]
+_SOURCES = [_ARCHIVE, pathlib.Path(__file__)]
 
 
 @functools.cache
@@ -331,7 +334,7 @@ def _part():
     """The functions of the shared object, which is made first where it is older than what it is made from."""
     if not _ARCHIVE.is_file():
         raise NotBuilt(f"{_ARCHIVE} is missing: run `{_ROOT / 'tools/build'} pmc330_c`, which makes it")
-    newest = max(path.stat().st_mtime_ns for path in [_ARCHIVE, *_SOURCES])
+    newest = max(path.stat().st_mtime_ns for path in _SOURCES)
     try:
         if not _SHARED.is_file() or _SHARED.stat().st_mtime_ns <= newest:
             _make_shared()
@@ -339,10 +342,9 @@ def _part():
     except OSError as error:
         raise NotBuilt(f"{_SHARED} can't be made or loaded ({error}): run `rm -rf {_SHARED.parent}` and try again") from None
     for name, arguments in _FUNCTIONS.items():
-        function = getattr(part, f"header_{name}")
+        function = getattr(part, f"pmc330_{name}")
         function.argtypes = [_Contents, *arguments]
         function.restype = ctypes.c_uint32 if name in ("line", "next_store") else ctypes.c_uint64
-    part.header_version.restype = ctypes.c_uint32
     return part
 
 
@@ -358,20 +360,14 @@ def _make_shared():
     _SHARED.parent.mkdir(parents=True, exist_ok=True)
     with tempfile.TemporaryDirectory(dir=_SHARED.parent) as folder:
         made = os.path.join(folder, "pmc330.so")
-        command = ["cc", "-std=c99", "-O2", "-shared", "-fPIC", "-Wl,-z,defs", f"-I{_ROOT / 'include'}"]
-        command += [str(_SOURCES[0]), str(_ARCHIVE), "-o", made]
+        needed = [f"-Wl,--require-defined=pmc330_{name}" for name in _FUNCTIONS]
+        command = ["cc", "-shared", "-Wl,-z,defs", *needed, str(_ARCHIVE), "-o", made]
         try:
             subprocess.run(command, check=True, capture_output=True, text=True)
         except FileNotFoundError:
             raise NotBuilt("there is no C compiler `cc`: run `apt-get install gcc`, or what installs one here") from None
         except subprocess.CalledProcessError as error:
-            # the first line that is not just a place, as "in function `header_open':" is
+            # the first line that is not just a place, as "in function `pmc330_open':" is
             said = next((line for line in error.stderr.splitlines() if line[-1:] not in ("", ":")), "it says nothing")
             raise NotBuilt(f"cc failed ({said}): run `{_ROOT / 'tools/build'} pmc330_c` again") from None
         os.replace(made, _SHARED)
-
-
-@functools.cache
-def _version():
-    """What a saved board begins with: the version of the meaning of its bytes, in the machine's order as these are."""
-    return bytes(ctypes.c_uint32(_part().header_version()))

@@ -193,26 +193,63 @@ fn every_name_is_its_figure() {
     );
 }
 
-/// Each array of a board's parts, in the struct and in what is lent of it.
+/// What the header declares, as this program calls it (`src/archive/`): a field or a function of another type would be
+/// called all the same.
+const DECLARATIONS: [&str; 41] = [
+    "typedef struct pmc330_board { int32_t inputs[32]",
+    "uint32_t lead",
+    "uint32_t lag",
+    "uint16_t codes[32]",
+    "uint16_t control",
+    "uint16_t timer",
+    "uint16_t taken",
+    "uint8_t gains[32]",
+    "uint8_t unread[32]",
+    "uint8_t range",
+    "uint8_t prescaler",
+    "uint8_t start",
+    "uint8_t end",
+    "uint8_t enable",
+    "uint8_t pending",
+    "uint8_t running",
+    "uint8_t waiting",
+    "uint8_t slot",
+    "uint8_t ends",
+    "uint8_t index",
+    "uint8_t odd",
+    "uint16_t spare",
+    "} pmc330_board",
+    "typedef char pmc330_board_has_284_bytes[sizeof(pmc330_board) == 284 ? 1 : -1]",
+    "uint64_t pmc330_open(pmc330_board *board, uint32_t range)",
+    "uint64_t pmc330_read(pmc330_board *board, uint32_t width, uint32_t offset)",
+    "uint64_t pmc330_write(pmc330_board *board, uint32_t width, uint32_t offset, uint32_t value)",
+    "uint64_t pmc330_input(pmc330_board *board, uint32_t channel, int32_t microvolts)",
+    "uint64_t pmc330_advance(pmc330_board *board, uint32_t ticks)",
+    "uint64_t pmc330_trigger(pmc330_board *board)",
+    "uint64_t pmc330_reset(pmc330_board *board)",
+    "uint64_t pmc330_look(const pmc330_board *board, uint32_t slot)",
+    "uint64_t pmc330_clear(pmc330_board *board, uint32_t slot)",
+    "uint32_t pmc330_line(const pmc330_board *board)",
+    "uint32_t pmc330_next_store(const pmc330_board *board)",
+    "uint64_t pmc330_corrected(uint32_t range, uint32_t gain, uint32_t high, uint32_t low, uint32_t high_sum, \
+     uint32_t low_sum, uint32_t raw)",
+    "uint32_t pmc330_code(uint32_t range, uint32_t gain, int32_t microvolts)",
+    "uint64_t pmc330_window(uint32_t length, const uint16_t *codes, size_t codes_len, uint32_t *sums, \
+     size_t sums_len)",
+    "uint64_t pmc330_play(const uint8_t *trace, size_t trace_len, uint8_t *answers, size_t answers_len)",
+    "uint64_t pmc330_replay(const uint8_t *trace, size_t trace_len)",
+    "uint64_t pmc330_load(uint32_t seed, uint32_t range, uint32_t calls, uint8_t *trace, size_t trace_len)",
+];
+
 #[test]
-fn arrays_have_their_lengths() {
-    let mut met = BTreeSet::new();
+fn declarations_are_those_that_are_called() {
     let text = text();
-    let mut parts = text.split('[');
-    let mut before = parts.next().expect("a first part");
-    for part in parts {
-        let length = part.split(']').next().expect("a part").trim();
-        let name = before
-            .rsplit(|c: char| !c.is_ascii_alphanumeric())
-            .next()
-            .expect("a name");
-        if let Ok(length) = length.parse::<usize>() {
-            let expected = if name == "words" { 17 } else { 32 };
-            assert_eq!(length, expected, "{name}");
-            met.insert(name.to_string());
-        }
-        before = part;
-    }
-    let names = ["codes", "gains", "inputs", "unread", "words"].map(String::from);
-    assert_eq!(met, BTreeSet::from(names));
+    let lines = text
+        .lines()
+        .filter(|it| !it.starts_with('#') && *it != "extern \"C\" {");
+    let words: Vec<&str> = lines.flat_map(str::split_whitespace).collect();
+    let words = words.join(" ");
+    let mut found: Vec<&str> = words.split(';').map(str::trim).collect();
+    assert_eq!(found.pop(), Some("}"), "the end of extern \"C\"");
+    assert_eq!(found, DECLARATIONS);
 }

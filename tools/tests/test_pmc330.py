@@ -1,6 +1,7 @@
 """The bench in Python: its names are the header's, its answers the program's, its errors say what is wrong."""
 
 import copy
+import ctypes
 import enum
 import inspect
 import math
@@ -99,8 +100,10 @@ class Names(unittest.TestCase):
         self.assertEqual(names - set(named_numbers()), set())
         self.assertEqual(sorted(pmc330.Refusal), [*range(1, 15), 22])
 
-    def test_of_the_other_tools_are_those_of_the_header(self):
+    def test_that_are_not_for_everyone_are_those_of_the_header(self):
         numbers = {
+            "PMC330_VERSION": pmc330._VERSION,
+            "sizeof(pmc330_board)": ctypes.sizeof(pmc330._Contents),
             "PMC330_TRACE_MAX": trace_text.C_TAKES,
             "PMC330_CONVERSION_TICKS": scan_events.CONVERSION,
             "PMC330_TRIGGER_TICKS": scan_events.TRIGGERS,
@@ -289,16 +292,27 @@ class Saving(unittest.TestCase):
         board = scanning()
         before = board.save()
         for wrong in [b"", before[:-1], before + b"\0"]:
-            with self.assertRaisesRegex(ValueError, f"^no saved board: it has {len(wrong)} bytes, not 328$"):
+            with self.assertRaisesRegex(ValueError, f"^no saved board: it has {len(wrong)} bytes, not 288$"):
                 board.restore(wrong)
-        with self.assertRaisesRegex(ValueError, "^a board saved under another version of the part: make its calls again"):
-            board.restore(bytes([before[0] + 1]) + before[1:])
-        for wrong in ["x" * 328, None]:
+        for wrong in ["x" * 288, None]:
             with self.assertRaises(TypeError):
                 board.restore(wrong)
         self.assertEqual(board.save(), before)
-        self.assertEqual(before[:4], (1).to_bytes(4, sys.byteorder))
+        self.assertEqual(before[:4], (2).to_bytes(4, sys.byteorder))
         board.restore(bytearray(before))
+        self.assertEqual(board.save(), before)
+
+    def test_takes_no_board_of_another_version(self):
+        """Version 1 had 324 bytes. A board of as many as now is none of this version either."""
+        board = scanning()
+        before = board.save()
+        for version, size in [(1, 324), (1, 284), (3, 284), (3, 300)]:
+            words = f"^a board saved under version {version} of the part, not 2: make its calls again instead$"
+            saved = version.to_bytes(4, sys.byteorder) + bytes(size)
+            with self.assertRaisesRegex(ValueError, words):
+                board.restore(saved)
+            with self.assertRaisesRegex(ValueError, words):
+                pmc330._restored(saved)
         self.assertEqual(board.save(), before)
 
 
@@ -331,8 +345,7 @@ class Part(unittest.TestCase):
         folder = tempfile.TemporaryDirectory()
         self.addCleanup(folder.cleanup)
         self.root = pathlib.Path(folder.name) / "a copy"
-        for folder in ["tools", "include"]:
-            shutil.copytree(ROOT / folder, self.root / folder)
+        shutil.copytree(ROOT / "tools", self.root / "tools")
         self.archive = self.root / "target/staticlib/libpmc330_c.a"
         self.archive.parent.mkdir(parents=True)
         shutil.copy(pmc330._ARCHIVE, self.archive)
@@ -353,7 +366,7 @@ class Part(unittest.TestCase):
         made = self.shared.stat().st_mtime_ns
         self.assertEqual(self.said(), ("", "", 0))
         self.assertEqual(self.shared.stat().st_mtime_ns, made)
-        for newer in [self.archive, self.root / "tools/pmc330.c", self.root / "include/pmc330.h"]:
+        for newer in [self.archive, self.root / "tools/pmc330.py"]:
             newer.touch()
             self.assertEqual(self.said(), ("", "", 0))
             self.assertGreater(self.shared.stat().st_mtime_ns, made)
@@ -387,7 +400,7 @@ class Part(unittest.TestCase):
         self.archive.unlink()
         subprocess.run(["ar", "rc", self.archive, object_file], check=True)
         out, err, code = self.said()
-        self.assertRegex(out, rf"^cc failed \(.*undefined reference to .pmc330_parts_[a-z]*'\): run `{self.root}/tools/build pmc330_c` again\n$")
+        self.assertRegex(out, rf"^cc failed \(.*required symbol .pmc330_[a-z_]*' not defined\): run `{self.root}/tools/build pmc330_c` again\n$")
         self.assertEqual((err, code, self.shared.exists()), ("", 0, False))
 
     def test_that_cannot_be_loaded_or_written_is_told(self):

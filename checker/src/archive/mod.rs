@@ -1,5 +1,5 @@
-//! The product: the archive under test, called as a C program calls it, in part through the header's own lines of C
-//! (`header.c` here and `tools/pmc330.c`); and boards that a simulator holds, stepped beside independent ones.
+//! The product: the archive under test, called as a C program calls it; and boards that a simulator holds, stepped beside
+//! independent ones.
 
 #[allow(clippy::module_inception)]
 mod archive;

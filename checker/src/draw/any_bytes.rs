@@ -1,9 +1,10 @@
 //! Structs with any bytes in them, also such that no calls lead to. Whatever they contain, every call answers and ends,
 //! and a refused call leaves every byte as it was; the next store holds of them too. So it is with looks and clears: a
-//! look leaves every byte, a clear all but one, and a mailbox read is both.
+//! look leaves every byte, a clear all but one, and a mailbox read is both. A flag is set by any byte but 0, and what fills
+//! the struct means nothing.
 
 use crate::archive::answer_of;
-use crate::archive::stepped::{changes_what_it_may, SteppedBoard, BYTES};
+use crate::archive::stepped::{changes_what_it_may, SteppedBoard, BYTES, NUMBERS};
 use crate::archive::stepping::beyond_a_trace;
 use crate::board::analog::Answer;
 use crate::board::call::{Calls, Step};
@@ -16,13 +17,13 @@ use crate::judge::looks::check_reads;
 /// What is drawn: how the bytes come about.
 const STYLES: [&str; 8] = [
     "all bytes random",
-    "a good board, some words replaced",
+    "a good board, some fields replaced",
     "a good board, some bytes replaced",
-    "small numbers in the words",
-    "marked numbers in the words",
+    "small numbers in the fields",
+    "marked numbers in the fields",
     "every byte FFH",
     "every byte 0",
-    "a board before arming, some words replaced",
+    "a board before arming, some fields replaced",
 ];
 
 /// The last of them: an idle board in external trigger only mode, and its first call is a trigger.
@@ -40,6 +41,8 @@ pub enum Moment {
         /// Has a byte changed?
         changes: bool,
     },
+    /// A call on the same board in other bytes, so many of whose flags are set, did the same.
+    InOtherBytes { flags: usize },
     /// The first call on a board before arming: does it show in a look?
     FirstTrigger { stores: bool },
     /// The next store held of the struct.
@@ -116,19 +119,19 @@ fn any_struct(random: &mut Random, style: usize) -> SteppedBoard {
         0 => random_bytes(random),
         1 => {
             let board = good_board(random);
-            replaced_words(random, board)
+            replaced_fields(random, board)
         }
         2 => replaced_bytes(random),
         3 => {
             let bound = random.pick(&[2, 6, 33, 200, 70_000]);
-            with_words(random, |random| random.below(bound))
+            with_fields(random, |random| random.below(bound))
         }
-        4 => with_words(random, marked),
+        4 => with_fields(random, marked),
         5 => SteppedBoard::filled(0xFF),
         6 => SteppedBoard::filled(0),
         _ => {
             let board = board_before_arming(random);
-            replaced_words(random, board)
+            replaced_fields(random, board)
         }
     }
 }
@@ -166,17 +169,19 @@ fn board_before_arming(random: &mut Random) -> SteppedBoard {
     board
 }
 
-fn replaced_words(random: &mut Random, mut board: SteppedBoard) -> SteppedBoard {
+fn replaced_fields(random: &mut Random, mut board: SteppedBoard) -> SteppedBoard {
     for _ in 0..random.between(1, 3) {
-        let place = random.below(17) as usize;
-        let words = board.words_mut();
-        words[place] = match random.below(6) {
-            0 => words[place].wrapping_add(1),
-            1 => words[place].wrapping_sub(1),
-            2 => words[place] ^ 1 << random.below(32),
-            3 => words[random.below(17) as usize],
+        let place = random.below(NUMBERS as u32) as usize;
+        let mut numbers = board.numbers();
+        let bits = random.pick(&[8, 16, 32]);
+        numbers[place] = match random.below(6) {
+            0 => numbers[place].wrapping_add(1),
+            1 => numbers[place].wrapping_sub(1),
+            2 => numbers[place] ^ 1 << random.below(bits),
+            3 => numbers[random.below(NUMBERS as u32) as usize],
             _ => marked(random),
         };
+        board.set_numbers(numbers);
     }
     board
 }
@@ -189,17 +194,17 @@ fn replaced_bytes(random: &mut Random) -> SteppedBoard {
     SteppedBoard::from_bytes(bytes)
 }
 
-fn with_words(random: &mut Random, word: impl Fn(&mut Random) -> u32) -> SteppedBoard {
+fn with_fields(random: &mut Random, number: impl Fn(&mut Random) -> u32) -> SteppedBoard {
     let mut board = match random.below(3) {
         0 => SteppedBoard::filled(0),
         1 => good_board(random),
         _ => random_bytes(random),
     };
-    *board.words_mut() = std::array::from_fn(|_| word(random));
+    board.set_numbers(std::array::from_fn(|_| number(random)));
     board
 }
 
-/// Numbers around those that the rules name, small ones, and any.
+/// Numbers around those that the rules name, small ones, and any. Of each, a field takes what it holds.
 fn marked(random: &mut Random) -> u32 {
     let bits = random.bits() as u32;
     let near = random.pick(&[0, 1, 16, 31, 32, 64, 120, 256, 65_536, LONGEST_ADVANCE]);
@@ -231,7 +236,7 @@ impl Subject<'_> {
         }
     }
 
-    /// It arms and stores, if the replaced words leave it so.
+    /// It arms and stores, if the replaced fields leave it so.
     fn trigger_before_arming(&mut self) {
         let looks = |mut board: SteppedBoard| std::array::from_fn(|slot| board.look(slot as u32));
         let before: [u64; 32] = looks(self.board);
@@ -298,11 +303,31 @@ impl Subject<'_> {
             self.board
         );
         assert!(self.board.line() <= 1, "{}: then the line", name());
+        self.make_in_other_bytes(step, &before, answer);
         self.coverage.note(&Moment::Made {
             style: self.style,
             step: *step,
             answer,
             changes: self.board != before,
+        });
+    }
+
+    /// The same board in other bytes answers the same, and then is the same board.
+    fn make_in_other_bytes(&mut self, step: &Step, before: &SteppedBoard, answer: Answer) {
+        let other_before = before.in_other_bytes(self.random.between(2, 255) as u8);
+        let mut other = other_before;
+        let of_other = answer_of(other.step(step));
+        let [shown, of_other_shown] =
+            [&self.board, &other].map(|board| (board.line(), board.next_store()));
+        assert!(
+            (of_other, of_other_shown) == (answer, shown)
+                && other.in_other_bytes(1) == self.board.in_other_bytes(1),
+            "{}, {step} on {before:?}: {answer:?}, then {:?}, but on {other_before:?}: {of_other:?}, then {other:?}",
+            self.name,
+            self.board
+        );
+        self.coverage.note(&Moment::InOtherBytes {
+            flags: before.flags(),
         });
     }
 
@@ -489,6 +514,22 @@ fn kinds_of_first_triggers() -> impl Iterator<Item = Kind<Moment>> {
     kinds.into_iter().map(of)
 }
 
+/// Calls on the same board in other bytes.
+fn kinds_of_other_bytes() -> impl Iterator<Item = Kind<Moment>> {
+    let kinds = [
+        ("call in other bytes, no flag set", 0..=0),
+        ("call in other bytes, some flag set", 1..=5),
+        ("call in other bytes, every flag set", 6..=6),
+    ];
+    kinds.into_iter().map(|(name, set)| {
+        kind(
+            name,
+            10_000,
+            move |moment: &Moment| matches!(moment, Moment::InOtherBytes { flags } if set.contains(flags)),
+        )
+    })
+}
+
 /// Looks that show a bit or none, clears that change a byte or none: accepted all of them.
 fn kinds_of_looks() -> Vec<Kind<Moment>> {
     let look = |name: &str, shows: bool| {
@@ -528,6 +569,7 @@ pub fn all_kinds() -> Vec<Kind<Moment>> {
         .into_iter()
         .chain(kinds_of_numbers())
         .chain(kinds_of_first_triggers())
+        .chain(kinds_of_other_bytes())
         .chain(kinds_of_looks())
         .chain(kinds_of_stores())
         .collect()

@@ -146,7 +146,7 @@ fn times() -> Vec<Named> {
     let in_a_microsecond = 8;
     vec![
         // of the meaning of a saved board's bytes (tests/stepping.rs)
-        number("PMC330_VERSION", 1),
+        number("PMC330_VERSION", 2),
         number("PMC330_TICK_NANOSECONDS", 1_000 / in_a_microsecond),
         number("PMC330_TICKS_PER_MICROSECOND", in_a_microsecond),
         number("PMC330_CONVERSION_TICKS", CONVERSION as u32),

@@ -87,7 +87,7 @@ pub fn packed(answer: Answer) -> u64
 }
 
 // The gain that a gain field means.
-const GAINS: [u64; 4] = [1, 2, 4, 8];
+static GAINS: [u64; 4] = [1, 2, 4, 8];
 
 // What a range is to the code of a voltage.
 #[derive(Clone, Copy)]
@@ -98,7 +98,8 @@ struct Scale {
     factor: u64,
 }
 
-const SCALES: [Scale; 4] = [
+// Static, as the other tables: a const is laid on the stack for every conversion.
+static SCALES: [Scale; 4] = [
     Scale {
         depth: 5_000_000,
         factor: 512,
@@ -117,7 +118,7 @@ const SCALES: [Scale; 4] = [
     },
 ];
 
-const CALIBRATIONS: [u32; 8] = [0, 0, 0, 4_900_000, 2_450_000, 1_225_000, 612_500, 0];
+static CALIBRATIONS: [u32; 8] = [0, 0, 0, 4_900_000, 2_450_000, 1_225_000, 612_500, 0];
 
 // The gain that a gain field means, of which the remainder counts.
 fn gain_of(field: u32) -> u64

@@ -1,6 +1,6 @@
 -- A read and a write: the code's parts are the definition's.
 use mathlib.Core.Bool.{Bool, not}
-use mathlib.Core.List.{List, [], ◌∷◌}
+use mathlib.Core.List.{[], ◌∷◌}
 use mathlib.Core.Path.{◌≡◌, sym, ap, ap₂, ◌∙◌}
 use Prim.Native.Nat.{ℕ, ◌^◌}
 use lib.Dec.{ltb}
@@ -8,8 +8,7 @@ use Rattle.std.specs.Prelude.{Err}
 use Rattle.analog.specs.Answers.{question, asked}
 use Rattle.analog.specs.declared.Refusal.{Refusal}
 use Rattle.analog.specs.declared.Refusal.TheVariants.{BadValue, BadDirection}
-use lib.ListN.{set}
-use Rattle.pmc330_model.specs.Map.{if_mailbox, class_of, is_readable}
+use Rattle.pmc330_model.specs.Map.{class_of, is_readable}
 use Rattle.pmc330_model.specs.declared.Register.{Register}
 use Rattle.pmc330_model.specs.Words.{read_word, read_bytes, held_word, written_word, with_word}
 use Rattle.pmc330_model.specs.Calls.{read, write}
@@ -17,28 +16,9 @@ use Rattle.pmc330_model.specs.Questions.{resulting_word, call_questions, access_
 use Rattle.pmc330_model.specs.Board.{view_of, questions_of, after_read, after_write, after_call, value_of_call}
 use Rattle.pmc330_model.specs.declared.Board.{Board}
 use Rattle.pmc330.specs.Widths.{bits_of, IsAccess}
-use Rattle.pmc330.specs.declared.questions.Access.{Access}
-use Rattle.pmc330.specs.declared.words.WordWrite.{WordWrite}
+use Rattle.pmc330.specs.declared.access.Access.{Access}
 use Rattle.pmc330.proofs.QuestionLaws.{and_then, asked_append, asked_then}
 use native.Mathlib.Omega.{arith}
-
--- a read's counts are those of the board after it
-abbrev with_unread : Board → List ℕ → Board
-with_unread b unread =
-    record {
-      range = b.range;
-      inputs = b.inputs;
-      gains = b.gains;
-      codes = b.codes;
-      unread = unread;
-      pending = b.pending;
-      registers = b.registers;
-      taken = b.taken;
-      cycle = b.cycle;
-    }
-
-pub read_counts : (register : Register) (b : Board) → with_unread b (if_mailbox register (λ slot. set b.unread slot 0) b.unread) ≡ after_read register b
-read_counts register b = grind arith
 
 -- the questions of an access that is refused, and those that are left of one that is not
 module _ (b : Board) (bits at : ℕ) where
@@ -70,26 +50,22 @@ module _ (b : Board) (bits at : ℕ) where
     unfolding value_of_call
     read_value = grind arith
 
-    module _ (value : ℕ) (w : WordWrite) (same_register : w.register ≡ register)
-        (written : w.word ≡ written_word (bits_of a.width) a.offset value (held_word b.registers b.gains register)) where
-      register_is : w.register ≡ class_of at
-      register_is = same_register ∙ class_is
-
-      word_is : w.word ≡ resulting_word b.registers b.gains bits at value
+    module _ (value word : ℕ) (written : word ≡ written_word (bits_of a.width) a.offset value (held_word b.registers b.gains register)) where
+      word_is : word ≡ resulting_word b.registers b.gains bits at value
       word_is = grind arith
 
       -- 4, and then 5 and on
       pub write_asked :
           asked (questions_of b (write bits at value))
-          ≡ and_then (asked (question BadValue (ltb value (2 ^ bits_of a.width)) ∷ [])) (word_questions b.registers (not b.cycle.timer.running) w.register w.word (with_word w.register w.word b.registers))
+          ≡ and_then (asked (question BadValue (ltb value (2 ^ bits_of a.width)) ∷ [])) (word_questions b.registers (not b.cycle.timer.running) register word (with_word register word b.registers))
       unfolding call_questions
       write_asked =
           let idle : Bool = not b.cycle.timer.running in
           asked_then (access_questions bits at (class_of at)) _ is.met
-          ∙ sym (ap₂ (λ (r : Register) (n : ℕ). asked (question BadValue (ltb value (2 ^ bits)) ∷ word_questions b.registers idle r n (with_word r n b.registers))) register_is word_is)
-          ∙ sym (ap (λ (n : ℕ). asked (question BadValue (ltb value (2 ^ n)) ∷ word_questions b.registers idle w.register w.word (with_word w.register w.word b.registers))) is.width)
+          ∙ sym (ap₂ (λ (r : Register) (n : ℕ). asked (question BadValue (ltb value (2 ^ bits)) ∷ word_questions b.registers idle r n (with_word r n b.registers))) class_is word_is)
+          ∙ sym (ap (λ (n : ℕ). asked (question BadValue (ltb value (2 ^ n)) ∷ word_questions b.registers idle register word (with_word register word b.registers))) is.width)
           ∙ asked_append (question BadValue (ltb value (2 ^ bits_of a.width)) ∷ []) _
 
-      pub write_board : after_write w.register w.word b ≡ after_call b (write bits at value)
+      pub write_board : after_write register word b ≡ after_call b (write bits at value)
       unfolding after_call
       write_board = grind arith

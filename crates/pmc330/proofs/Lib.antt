@@ -1,9 +1,5 @@
-pub mod FieldLaws
-pub mod TimeLaws
-pub mod TurnLaws
-pub mod SpanLaws
 pub mod QuestionLaws
 pub mod WordLaws
-pub mod HeldLaws
 pub mod AccessLaws
-pub mod LentLaws
+pub mod RawLaws
+pub mod RawTimeLaws

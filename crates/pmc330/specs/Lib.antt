@@ -1,4 +1,4 @@
-pub mod Fields
 pub mod Widths
-pub mod Steps
 pub mod Classes
+pub mod Raw
+pub mod RawTime

@@ -1,12 +1,11 @@
 //! What the words of the register map hold, and what a read or a write of any width covers of them.
 ghost use Rattle.std.specs.Prelude.{cond, ◌≡◌, ◌+◌, ◌-◌, ◌*◌, ◌/◌, ◌%◌, ◌^◌, ◌≤◌, ◌<◌, leb, get_or, length, ℕ};
-ghost use Rattle.pmc330_model.specs.Map.{class_of};
-ghost use Rattle.pmc330_model.specs.Words.{joined, to_bit, held_word, read_word, read_bytes, written_byte, written_word, with_word, gains_from, gains_with, is_release, is_stop, is_start};
-ghost use Rattle.pmc330.specs.Steps.{view_in};
-ghost use Rattle.pmc330.specs.Widths.{bits_of};
+ghost use Rattle.pmc330_model.specs.Map.{kept_control};
+ghost use Rattle.pmc330_model.specs.Words.{joined, to_bit, held_word, read_word, read_bytes, written_byte, written_word, gains_from};
+ghost use Rattle.pmc330.specs.Widths.{bits_of, view_in};
 
-use crate::fields::ScanMode;
-use crate::questions::Access;
+use crate::access::Access;
+use crate::widths::Width;
 use pmc330_model::{Register, Registers};
 
 // A word of digits to a base, the first one lowest.
@@ -73,7 +72,7 @@ fn mailbox_word(codes: &[u16; 32], slot: u8) -> u32
         .map_or(0, |&code| u32::from(code))
 }
 
-// The word that is read. The arrays are parameters of their own, as in `lent`: C lends each by itself.
+// The word that is read.
 #[tactic(auto, unfolding(pmc330_model::specs::Words::read_word, pmc330_model::specs::Words::held_word))]
 pub(crate) fn read_word(
     r: Registers,
@@ -102,7 +101,7 @@ pub(crate) fn look_value(code: u16, stores: u8) -> u32
 }
 
 // A group of eight gains takes two bits each.
-fn gains_from(gains: &mut [u8; 32], group: u8, word: u16)
+pub(crate) fn gains_from(gains: &mut [u8; 32], group: u8, word: u16)
     ensures { gains.new ≡ gains_from (8 * group) word 8 gains.old }
 {
     let first = 8 * usize::from(group);
@@ -117,64 +116,11 @@ fn gains_from(gains: &mut [u8; 32], group: u8, word: u16)
     }
 }
 
-// A write of a whole word: the register that takes it, and the word.
-#[derive(Clone, Copy)]
-pub(crate) struct WordWrite {
-    pub register: Register,
-    pub word: u16,
-}
-
-impl WordWrite {
-    // The registers after it.
-    #[tactic(auto, unfolding(pmc330_model::specs::Words::with_word))]
-    pub(crate) fn registers_after(self, r: Registers) -> Registers
-        ensures { result ≡ with_word self.register self.word r }
-    {
-        let word = self.word;
-        let mut n = r;
-        match self.register {
-            Register::Interrupt => n.enable = word % 2 == 1,
-            Register::Control => n.control = word % 0x40 + word / 0x100 % 0x40 * 0x100,
-            Register::Prescaler => n.prescaler = (word / 0x100) as u8,
-            Register::Timer => n.timer = word,
-            Register::Channels => {
-                n.start = (word % 0x100) as u8;
-                n.end = (word / 0x100) as u8;
-            }
-            _ => {}
-        }
-        n
-    }
-
-    // The gains after it.
-    pub(crate) fn set_gains(self, gains: &mut [u8; 32])
-        ensures { gains.new ≡ gains_with self.register self.word gains.old }
-    {
-        if let Register::Gain(group) = self.register {
-            gains_from(gains, group, self.word);
-        }
-    }
-
-    // Whether it releases the interrupt.
-    pub(crate) fn is_release(self) -> bool
-        ensures { result ≡ is_release self.register self.word }
-    {
-        matches!(self.register, Register::Interrupt) && self.word / 0x8000 % 2 == 1
-    }
-
-    // Whether it ends the cycle.
-    pub(crate) fn is_stop(self) -> bool
-        ensures { result ≡ is_stop self.register self.word }
-    {
-        matches!(self.register, Register::Control) && ScanMode::of(self.word) == Some(ScanMode::Off)
-    }
-
-    // Whether it starts a cycle.
-    pub(crate) fn is_start(self) -> bool
-        ensures { result ≡ is_start self.register self.word }
-    {
-        matches!(self.register, Register::StartConvert) && self.word % 2 == 1
-    }
+// Control keeps the bits that have a use.
+pub(crate) fn kept_control(word: u16) -> u16
+    ensures { result ≡ kept_control word }
+{
+    word % 0x40 + word / 0x100 % 0x40 * 0x100
 }
 
 // The byte of a word at a place.
@@ -208,19 +154,23 @@ impl Access {
         byte_at(old, place)
     }
 
-    // The write of a whole word that a write of a value comes to.
+    // The word that a write of a value results in.
     #[tactic(auto, unfolding(pmc330_model::specs::Words::written_word))]
-    pub(crate) fn word_write(self, r: Registers, gains: &[u8; 32], value: u32) -> WordWrite
-        ensures register { result.register ≡ class_of self.offset }
-        ensures word { result.word ≡ written_word (bits_of self.width) self.offset value (held_word r gains.now (class_of self.offset)) }
+    pub(crate) fn written_word(
+        self,
+        r: Registers,
+        gains: &[u8; 32],
+        register: Register,
+        value: u32,
+    ) -> u16
+        ensures { result ≡ written_word (bits_of self.width) self.offset value (held_word r gains.now register) }
     {
-        let register = self.register();
+        if self.offset % 4 == 0 && self.width != Width::Byte {
+            return (value % 0x10000) as u16;
+        }
         let old = held_word(r, gains, register);
         let low = self.written_byte(value, old, 0);
         let high = self.written_byte(value, old, 1);
-        WordWrite {
-            register,
-            word: u16::from_le_bytes([low, high]),
-        }
+        u16::from_le_bytes([low, high])
     }
 }

@@ -9,13 +9,13 @@ pub fn steps_seen()
     ensures { EverySteps }
 {}
 
-/// A refused call leaves every part of the board that C holds as it was, and gives the number of the first question that is
+/// A refused call leaves every byte of the board that C holds as it was, and gives the number of the first question that is
 /// answered with no.
 pub fn refused_steps()
     ensures { EveryRefusedStep }
 {}
 
-/// A board that is refused for its range is refused with 14, and every part stays as it was.
+/// A board that is refused for its range is refused with 14, and every byte stays as it was.
 pub fn refused_opens()
     ensures { EveryRefusedOpen }
 {}

@@ -1,6 +1,6 @@
 -- What ties a board to the logbook of the calls that led to it. The logbook holds what the board does, and beside it
 -- a tick, the running cycle and the events: the proof of sentence 3 shows that each call keeps `Agrees`.
-use mathlib.Core.Bool.{Bool, true, false}
+use mathlib.Core.Bool.{Bool, true, false, ◌&&◌}
 use mathlib.Core.List.{List, [], ◌∷◌}
 use mathlib.Core.Logic.{◌⊎◌}
 use mathlib.Core.Path.{◌≡◌}
@@ -52,9 +52,9 @@ pub record Startable (r : Registers) : Type 0 where
   pub half : is_differential r ≡ true → r.end ≤ 15
   pub slow : is_uniform r ≡ true → 64 ≤ interval r
 
--- conversion k is next: its pass has that parity, and the conversion before it, if any, that slot
+-- conversion k is next: its pass has that parity, if differential, and the conversion before it, if any, that slot
 pub record NextIs (r : Registers) (k : ℕ) (odd : Bool) (slot : ℕ) : Type 0 where
-  pub parity : odd ≡ in_odd_pass r k
+  pub parity : odd ≡ (is_differential r && in_odd_pass r k)
   pub before : (j : ℕ) → k ≡ suc j → slot ≡ slot_of r j
 
 -- a cycle in time: k is the next conversion

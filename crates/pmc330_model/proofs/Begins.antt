@@ -1,11 +1,11 @@
 -- A conversion begins: the board's beginning is the logbook's.
-use mathlib.Core.Bool.{Bool, not, cond}
+use mathlib.Core.Bool.{Bool, not, cond, ◌&&◌}
 use mathlib.Core.List.{List}
 use mathlib.Core.Path.{◌≡◌, ap, ◌∙◌}
 use Prim.Native.Nat.{ℕ, suc, ◌+◌, ◌%◌, ◌<◌}
 use Rattle.schedule.proofs.Standing.{begun_ends}
 use Rattle.analog.proofs.Bounds.{code_below}
-use Rattle.pmc330_model.specs.Schedule.{pass_length, slot_of, voltage_at}
+use Rattle.pmc330_model.specs.Schedule.{pass_length, is_differential, slot_of, voltage_at}
 use Rattle.pmc330_model.specs.Plan.{plan_of}
 use Rattle.pmc330_model.specs.Board.{code_taken, begun}
 use Rattle.pmc330_model.specs.Logbook.{Event, CycleSince, begins}
@@ -26,7 +26,7 @@ module _ (b : Board) (startable : Startable b.registers) (k : ℕ) (index : b.cy
   begun_next next =
       record {
         parity =
-            ap (λ (ends : Bool). cond ends (not b.cycle.odd) b.cycle.odd) (begun_ends (plan_of b.registers) k b.cycle.timer index)
+            ap (λ (ends : Bool). cond (is_differential b.registers && ends) (not b.cycle.odd) b.cycle.odd) (begun_ends (plan_of b.registers) k b.cycle.timer index)
             ∙ parity_next b.registers k b.cycle.odd next.parity;
         before = λ j e. slot ∙ ap (slot_of b.registers) (same e);
       }

@@ -8,7 +8,7 @@ use native.Mathlib.Omega.{arith}
 use Rattle.std.specs.Prelude.{Some, None}
 use Rattle.schedule.proofs.Places.{same_pass, next_pass}
 use Rattle.schedule.proofs.Schedule as laws
-use Rattle.pmc330_model.specs.Schedule.{pass_length, is_single, is_timed, in_odd_pass, slot_of, ends_pass, begins_at, is_scheduled}
+use Rattle.pmc330_model.specs.Schedule.{pass_length, is_single, is_timed, is_differential, in_odd_pass, slot_of, ends_pass, begins_at, is_scheduled}
 use Rattle.pmc330_model.specs.Plan.{plan_of}
 use Rattle.pmc330_model.specs.Logbook.{CycleSince, idle, since, due_after}
 use Rattle.pmc330_model.specs.declared.Registers.{Registers}
@@ -47,10 +47,15 @@ module _ (r : Registers) (timed : is_timed r ≡ true) where
   pub scheduled_next : (k : ℕ) → is_scheduled r k ≡ true → is_scheduled r (suc k) ≡ not (is_single r && ends_pass r k)
   scheduled_next k on = scheduled_is r timed (suc k) ∙ laws.scheduled_next (plan_of r) k (sym (scheduled_is r timed k) ∙ on)
 
--- the parity of the pass goes from a conversion to the next
-pub parity_next : (r : Registers) (k : ℕ) (odd : Bool) → odd ≡ in_odd_pass r k → cond (ends_pass r k) (not odd) odd ≡ in_odd_pass r (suc k)
-parity_next r k odd e = go (laws.inside_or_ends (plan_of r) k)
+-- the parity of the pass goes from a conversion to the next, if differential
+pub parity_next :
+    (r : Registers) (k : ℕ) (odd : Bool) → odd ≡ (is_differential r && in_odd_pass r k)
+    → cond (is_differential r && ends_pass r k) (not odd) odd ≡ (is_differential r && in_odd_pass r (suc k))
+parity_next r k odd e = go (is_differential r) (laws.inside_or_ends (plan_of r) k) e
   where
-    go : (suc (k % pass_length r) ≡ pass_length r) ⊎ (suc (k % pass_length r) < pass_length r) → cond (ends_pass r k) (not odd) odd ≡ in_odd_pass r (suc k)
-    go (inl h) = rw (laws.ends_is (plan_of r) k h, next_pass k (pass_length r) h) (ap not e ∙ sym (odd_next (k / pass_length r)))
-    go (inr h) = rw (laws.inside_is (plan_of r) k h, same_pass k (pass_length r) h) e
+    go :
+        (d : Bool) → (suc (k % pass_length r) ≡ pass_length r) ⊎ (suc (k % pass_length r) < pass_length r) → odd ≡ (d && in_odd_pass r k)
+        → cond (d && ends_pass r k) (not odd) odd ≡ (d && in_odd_pass r (suc k))
+    go true (inl h) o = rw (laws.ends_is (plan_of r) k h, next_pass k (pass_length r) h) (ap not o ∙ sym (odd_next (k / pass_length r)))
+    go true (inr h) o = rw (laws.inside_is (plan_of r) k h, same_pass k (pass_length r) h) o
+    go false h o = o

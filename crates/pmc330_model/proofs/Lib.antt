@@ -23,5 +23,4 @@ pub mod Looks
 pub mod ChannelWait
 pub mod Countdowns
 pub mod NextStores
-pub mod Opening
 pub mod Bench

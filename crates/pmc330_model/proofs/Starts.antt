@@ -11,7 +11,8 @@ use Rattle.schedule.specs.declared.Plan.{Plan}
 use Rattle.schedule.proofs.Schedule.{scheduled_first, begins_first}
 use Rattle.schedule.proofs.Standing.{started_stands, begun_stands}
 use Rattle.pmc330_model.specs.Map.{scan_field}
-use Rattle.pmc330_model.specs.Schedule.{pass_length, interval, is_uniform, is_burst, is_timed, is_trigger_only}
+use Rattle.std.proofs.lemmas.Bool.{and_right}
+use Rattle.pmc330_model.specs.Schedule.{pass_length, interval, is_differential, is_uniform, is_burst, is_timed, is_trigger_only}
 use Rattle.pmc330_model.specs.Plan.{plan_of}
 use Rattle.pmc330_model.specs.Board.{code_taken, begun, fresh_cycle, restarted, started}
 use Rattle.pmc330_model.specs.Logbook.{Event, cycle_start, CycleSince, since, begins, starts}
@@ -30,7 +31,7 @@ module _ (r : Registers) (limits : Limits r) (channels : has_channels r ≡ true
 
 -- conversion 0 is next in a fresh cycle
 fresh_next : (r : Registers) → NextIs r 0 false 0
-fresh_next r = record { parity = rw (zero-div (pass_length r)); before = λ j e. cc }
+fresh_next r = record { parity = rw (zero-div (pass_length r)) (sym (and_right (is_differential r) false refl)); before = λ j e. cc }
 
 -- a fresh cycle in external trigger only is armed, with no trigger taken yet
 pub fresh_armed : (r : Registers) (tick : ℕ) → is_timed r ≡ false → is_trigger_only r ≡ true → Armed r tick [] (fresh_cycle r)

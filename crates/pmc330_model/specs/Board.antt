@@ -60,7 +60,8 @@ stored slot ends b =
 
 -- ---- a beginning and a store, beside what they do to the timer
 
--- the conversion at a place of its pass takes its code, and its slot is noted; after the last one of a pass the parity turns
+-- the conversion at a place of its pass takes its code, and its slot is noted; if differential, the parity turns after the last one
+-- of a pass
 unfoldable pub code_taken : (index : ℕ) → Board → Board
 code_taken index b =
     record b {
@@ -68,7 +69,7 @@ code_taken index b =
       cycle = record b.cycle {
         waiting = true;
         slot = (b.registers.start + index + (if is_differential b.registers && b.cycle.odd then 16 else 0)) % 32;
-        odd = if nat_le (plan_of b.registers).last index then not b.cycle.odd else b.cycle.odd;
+        odd = if is_differential b.registers && nat_le (plan_of b.registers).last index then not b.cycle.odd else b.cycle.odd;
       };
     }
 
@@ -256,6 +257,10 @@ new_call range =
       board = new_board (if nat_le range 3 then range else 0);
       answer = answered (question BadRange (nat_le range 3) ∷ []) 0;
     }
+
+-- the same in place of a board; one that is refused leaves it
+abbrev pub open_call : Board → (range : ℕ) → Reply
+open_call b range = record { board = if nat_le range 3 then new_board range else b; answer = (new_call range).answer }
 
 -- the request line is enable and pending
 abbrev pub request_line : Board → Bool

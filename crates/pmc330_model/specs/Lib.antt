@@ -6,7 +6,6 @@ pub mod Calls
 pub mod Questions
 pub mod Board
 pub mod NextStore
-pub mod Lent
 pub mod Logbook
 pub mod Sentences
 pub mod ChannelWait

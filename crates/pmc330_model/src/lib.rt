@@ -46,7 +46,7 @@ pub struct Registers {
 }
 
 /// Where a cycle stands. Times are relative and bounded: a list of calls has no bound, and so no tick count fits.
-/// C holds these fields as words with any contents, so 0 stands for none here, and a slot stays beside `waiting`.
+/// C holds these fields with any contents, so 0 stands for none here, and a slot stays beside `waiting`.
 /// The default is the idle cycle.
 #[derive(Clone, Copy, Debug, Default, PartialEq, Eq)]
 pub struct Cycle {
@@ -56,11 +56,11 @@ pub struct Cycle {
     pub waiting: bool,
     /// The slot of that code.
     pub slot: u8,
-    /// Whether the pass of the next conversion is odd.
+    /// Whether the pass of the next conversion is odd, if differential.
     pub odd: bool,
 }
 
-/// The board, passed by value. One array for each thing that slots and channels have: C lends them one by one.
+/// The board, passed by value. One array for each thing that slots and channels have.
 #[derive(Clone, Copy)]
 pub struct Board {
     /// 0 is ±5 V, 1 is ±10 V, 2 is 0 to 5 V, 3 is 0 to 10 V; a board that C holds may have any number here.

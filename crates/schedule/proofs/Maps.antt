@@ -64,3 +64,30 @@ module _ {A : Type 0} {B : Type 0} (p : Plan) (e : Effects A) (f : A → B)
 
   pub advanced_keeps : (n : ℕ) (s : Scan A) → f (advanced p e n s).board ≡ f s.board
   advanced_keeps n s = ap (λ (t : Scan B). t.board) (advanced_seen p e none f taken stored n s) ∙ still n (scan s.timer (f s.board))
+
+-- what every beginning and every store keeps is kept by any ticks
+module _ {B : Type 0} (p : Plan) (e : Effects B) (P : B → Type 0)
+    (taken : (index : ℕ) (b : B) → P b → P (e.taken index b)) (stored : (ends : Bool) (b : B) → P b → P (e.stored ends b)) where
+  store_holds : (due : Bool) (s : Scan B) → P s.board → P (store_if p e due s).board
+  store_holds true s h = stored s.timer.ends s.board h
+  store_holds false s h = h
+
+  begin_holds : (due : Bool) (s : Scan B) → P s.board → P (begin_if p e due s).board
+  begin_holds due s h = go (due && s.timer.running)
+    where
+      go : (begins : Bool) → P (cond begins (scan (begun_timer p s.timer) (e.taken s.timer.index s.board)) s).board
+      go true = taken s.timer.index s.board h
+      go false = h
+
+  tick_holds : (s : Scan B) → P s.board → P (ticked p e s).board
+  unfolding ticked
+  tick_holds s h = go s.timer.running
+    where
+      go : (runs : Bool) → P (cond runs (begin_if p e (eqb s.timer.lead 1) (store_if p e (eqb s.timer.lag 1) (elapsed 1 s))) s).board
+      go true = begin_holds (eqb s.timer.lead 1) _ (store_holds (eqb s.timer.lag 1) (elapsed 1 s) h)
+      go false = h
+
+  pub advanced_holds : (n : ℕ) (s : Scan B) → P s.board → P (advanced p e n s).board
+  unfolding advanced
+  advanced_holds zero s h = h
+  advanced_holds (suc n) s h = advanced_holds n (ticked p e s) (tick_holds s h)

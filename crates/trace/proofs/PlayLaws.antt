@@ -15,8 +15,7 @@ use Rattle.analog.specs.declared.Refusal.TheVariants.{BadHeading, BadField, Shor
 use Rattle.analog.proofs.RefusalLaws.{number_some}
 use Rattle.analog.proofs.AnswerLaws.{none_asked, ok_first, err_first, answered_ok, answered_err}
 use Rattle.pmc330_model.specs.Calls.{Call}
-use Rattle.pmc330_model.specs.Board.{board_call, new_board, answers_from, answers_of}
-use Rattle.pmc330_model.specs.Lent.{open_call}
+use Rattle.pmc330_model.specs.Board.{board_call, new_board, answers_from, answers_of, open_call}
 use Rattle.pmc330_model.specs.declared.Board.{Board}
 use Rattle.pmc330_model.specs.declared.Reply.{Reply}
 use Rattle.trace.specs.Grammar.{is_call_tag}

@@ -2,13 +2,14 @@
 ghost use Rattle.std.specs.Prelude.{◌≡◌, ◌≤◌, ◌++◌, length, drop};
 ghost use Rattle.analog.specs.Answers.{number_of};
 ghost use Rattle.pmc330_model.specs.Board.{board_call};
+ghost use Rattle.pmc330.specs.Raw.{board_of};
 ghost use Rattle.trace.specs.Stated.{call_stated};
 ghost use Rattle.trace.specs.Play.{answer_bytes};
 ghost use Rattle.trace.specs.Replay.{is_equal};
 
 use crate::fields;
 use analog::{Answer, Refusal};
-use pmc330::parts::Parts;
+use pmc330::raw::RawBoard;
 
 // A call with its arguments, widened as the board takes them: a trace hands over any number, and each is answered, so that a
 // narrower type would ask more.
@@ -28,9 +29,9 @@ impl Call {
     // The call made on a board.
     #[tactic(auto, using(pmc330_model::proofs::Looks::looks_change_nothing))]
     #[inline(always)]
-    pub(crate) fn made_on(self, board: &mut Parts) -> Answer
-        ensures answer { result ≡ (board_call board.old (call_stated self)).answer }
-        ensures board { board.new ≡ (board_call board.old (call_stated self)).board }
+    pub(crate) fn made_on(self, board: &mut RawBoard) -> Answer
+        ensures answer { result ≡ (board_call (board_of board.old) (call_stated self)).answer }
+        ensures board { board_of board.new ≡ (board_call (board_of board.old) (call_stated self)).board }
     {
         match self {
             Call::Read { width, offset } => rebuilt(board.read(width, offset)),

@@ -1,6 +1,7 @@
 //! The fields of a trace: the heading, and the check of them all.
 ghost use Rattle.std.specs.Prelude.{◌≡◌, ◌+◌, ◌≤◌, length, drop, false, Err, MatchOption, MatchResult};
 ghost use Rattle.analog.specs.Answers.{first_no, asked};
+ghost use Rattle.pmc330.specs.Raw.{board_of};
 ghost use Rattle.pmc330_model.specs.Board.{new_board};
 ghost use Rattle.trace.specs.Grammar.{length_of, is_call_tag, number_at};
 ghost use Rattle.trace.specs.Fields.{range_of, is_heading, is_later_tag, is_later_field, later_fields, calls_of};
@@ -10,7 +11,7 @@ ghost use Rattle.trace.specs.Machine.{StatesCall, SplitsField, walked, check_of}
 
 use crate::calls::Call;
 use analog::Refusal;
-use pmc330::parts::Parts;
+use pmc330::raw::RawBoard;
 
 // What a field after the heading is.
 #[derive(Clone, Copy, PartialEq, Eq)]
@@ -250,10 +251,10 @@ impl<'a> TryFrom<&'a [u8]> for Checked<'a> {
 
 impl<'a> Checked<'a> {
     // The board that its calls begin on.
-    pub(crate) fn board(self) -> Parts
-        ensures { result ≡ new_board (range_of self.entry.trace.now) }
+    pub(crate) fn board(self) -> RawBoard
+        ensures { board_of result ≡ new_board (range_of self.entry.trace.now) }
     {
-        let mut board = Parts::default();
+        let mut board = RawBoard::default();
         // the heading has one of a board's ranges
         let _ = board.open(u32::from(self.trace[7]));
         board

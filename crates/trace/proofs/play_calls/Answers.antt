@@ -5,6 +5,7 @@ use mathlib.Core.Path.{◌≡◌, sym, ap, subst, ◌∙◌}
 use native.Mathlib.Omega.{arith}
 use Prim.Native.Nat.{ℕ}
 use lib.ListN.{drop}
+use Rattle.pmc330.specs.Raw.{board_of}
 use Rattle.pmc330_model.specs.Board.{board_call, new_board}
 use Rattle.trace.specs.Fields.{Field, range_of, fields_of, is_undamaged, listed}
 use Rattle.trace.specs.Stated.{byte_of}
@@ -22,8 +23,8 @@ module _ (c : In-Some) where
   next : (listed (fields_of c.loop-field.field-iterator.rest.now) ≡ field ∷ listed (fields_of c.next.new.self.rest.now)) × (is_undamaged (fields_of c.next.new.self.rest.now) ≡ true)
   next = next_field c.loop-field.field-iterator.rest.now _ _ c.next.new.self.rest.now c.in-Some.ensures.steps c.loop-field.invariant.undamaged
 
-  plays : Playing c.args.trace.trace.now c.args.answers.now (new_board (range_of c.args.trace.trace.now)) c.loop-field.answers c.loop-field.board (field ∷ listed (fields_of c.next.new.self.rest.now)) c.loop-field.done
-  plays = subst (λ (rest : List Field). Playing c.args.trace.trace.now c.args.answers.now (new_board (range_of c.args.trace.trace.now)) c.loop-field.answers c.loop-field.board rest c.loop-field.done) next.0 c.loop-field.invariant.plays
+  plays : Playing c.args.trace.trace.now c.args.answers.now (new_board (range_of c.args.trace.trace.now)) c.loop-field.answers (board_of c.loop-field.board) (field ∷ listed (fields_of c.next.new.self.rest.now)) c.loop-field.done
+  plays = subst (λ (rest : List Field). Playing c.args.trace.trace.now c.args.answers.now (new_board (range_of c.args.trace.trace.now)) c.loop-field.answers (board_of c.loop-field.board) rest c.loop-field.done) next.0 c.loop-field.invariant.plays
 
 pub loop-field-init : goal.loop-field-init
 loop-field-init c =
@@ -32,7 +33,7 @@ loop-field-init c =
     record {
       undamaged = subst (λ (l : List ℕ). is_undamaged (fields_of l) ≡ true) at (ap is_undamaged (walkable trace c.args.trace.passed).undamaged);
       plays =
-          subst (λ (l : List ℕ). Playing trace c.args.answers.now (new_board (range_of trace)) c.args.answers.now c.board-board.result (listed (fields_of l)) 0) at
+          subst (λ (l : List ℕ). Playing trace c.args.answers.now (new_board (range_of trace)) c.args.answers.now (board_of c.board-board.result) (listed (fields_of l)) 0) at
           (rw c.board-board.ensures (opening trace c.args.answers.now (new_board (range_of trace)) (omega (arith, c.requires, c.args.trace.counted))));
     }
 
@@ -47,7 +48,7 @@ loop-field-preserved-in-Some-call c =
       undamaged = (next k).1;
       plays =
           (turn _ _ _ _ _ _ _ _ (plays k) c.in-Some-call.ensures.made).next _ _
-          ((λ i. record { board = call.board i; answer = call.answer i }) ∙ ap (board_call c.loop-field.board) c.in-Some-call.ensures.same)
+          ((λ i. record { board = call.board i; answer = call.answer i }) ∙ ap (board_call (board_of c.loop-field.board)) c.in-Some-call.ensures.same)
           c.put.ensures;
     }
 
@@ -60,4 +61,4 @@ pub returns : goal.returns
 returns c =
     let l = c.loop-field in
     let none = no_next l.field-iterator.rest.now c.in-None.ensures.steps.0 l.invariant.undamaged in
-    over _ _ _ _ _ _ (subst (λ (rest : List Field). Playing c.args.trace.trace.now c.args.answers.now (new_board (range_of c.args.trace.trace.now)) l.answers l.board rest l.done) none l.invariant.plays)
+    over _ _ _ _ _ _ (subst (λ (rest : List Field). Playing c.args.trace.trace.now c.args.answers.now (new_board (range_of c.args.trace.trace.now)) l.answers (board_of l.board) rest l.done) none l.invariant.plays)

@@ -5,6 +5,7 @@ use mathlib.Core.Path.{◌≡◌, sym, ap, ap₂, subst, ◌∙◌}
 use native.Mathlib.Omega.{arith}
 use Prim.Native.Nat.{ℕ, ◌+◌, ◌≤◌}
 use lib.ListN.{length, drop, length-drop}
+use Rattle.pmc330.specs.Raw.{board_of}
 use Rattle.pmc330_model.specs.Board.{board_call, new_board}
 use Rattle.std.specs.Prelude.{Ok}
 use Rattle.trace.specs.Fields.{Field, range_of, fields_of, fields_after, is_undamaged, listed}
@@ -25,8 +26,8 @@ module _ (c : In-Some) where
   next : (listed (fields_of c.loop-field.field-iterator.rest.now) ≡ field ∷ listed (fields_of c.next.new.self.rest.now)) × (is_undamaged (fields_of c.next.new.self.rest.now) ≡ true)
   next = next_field c.loop-field.field-iterator.rest.now _ _ c.next.new.self.rest.now c.in-Some.ensures.steps c.loop-field.invariant.undamaged
 
-  replays : Replaying c.args.trace.trace.now (new_board (range_of c.args.trace.trace.now)) c.loop-field.board (field ∷ listed (fields_of c.next.new.self.rest.now)) c.loop-field.index c.loop-field.count c.loop-field.answer
-  replays = subst (λ (rest : List Field). Replaying c.args.trace.trace.now (new_board (range_of c.args.trace.trace.now)) c.loop-field.board rest c.loop-field.index c.loop-field.count c.loop-field.answer) next.0 c.loop-field.invariant.replays
+  replays : Replaying c.args.trace.trace.now (new_board (range_of c.args.trace.trace.now)) (board_of c.loop-field.board) (field ∷ listed (fields_of c.next.new.self.rest.now)) c.loop-field.index c.loop-field.count c.loop-field.answer
+  replays = subst (λ (rest : List Field). Replaying c.args.trace.trace.now (new_board (range_of c.args.trace.trace.now)) (board_of c.loop-field.board) rest c.loop-field.index c.loop-field.count c.loop-field.answer) next.0 c.loop-field.invariant.replays
 
 pub loop-field-init : goal.loop-field-init
 loop-field-init c =
@@ -40,7 +41,7 @@ loop-field-init c =
       indexed = few;
       counted = few;
       replays =
-          subst (λ (l : List ℕ). Replaying trace (new_board (range_of trace)) c.board-board.result (listed (fields_of l)) 0 0 (Ok 0)) at
+          subst (λ (l : List ℕ). Replaying trace (new_board (range_of trace)) (board_of c.board-board.result) (listed (fields_of l)) 0 0 (Ok 0)) at
           (rw c.board-board.ensures (replay_opens trace (new_board (range_of trace))));
     }
 
@@ -54,7 +55,7 @@ loop-field-preserved-in-Some-call c =
       counted = omega (arith, c.loop-field.invariant.counted, ap length (next k).0);
       replays =
           makes _ _ _ _ _ _ _ _ (replays k) c.in-Some-call.ensures.made _
-          ((λ i. record { board = call.board i; answer = call.answer i }) ∙ ap (board_call c.loop-field.board) c.in-Some-call.ensures.same);
+          ((λ i. record { board = call.board i; answer = call.answer i }) ∙ ap (board_call (board_of c.loop-field.board)) c.in-Some-call.ensures.same);
     }
 
 pub is_equal-requires : goal.is_equal-requires
@@ -79,4 +80,4 @@ pub returns : goal.returns
 returns c =
     let l = c.loop-field in
     let none = no_next l.field-iterator.rest.now c.in-None.ensures.steps.0 l.invariant.undamaged in
-    all_agree _ _ _ _ _ _ (subst (λ (rest : List Field). Replaying c.args.trace.trace.now (new_board (range_of c.args.trace.trace.now)) l.board rest l.index l.count l.answer) none l.invariant.replays)
+    all_agree _ _ _ _ _ _ (subst (λ (rest : List Field). Replaying c.args.trace.trace.now (new_board (range_of c.args.trace.trace.now)) (board_of l.board) rest l.index l.count l.answer) none l.invariant.replays)

@@ -3,6 +3,7 @@ use mathlib.Core.Bool.{true}
 use mathlib.Core.Path.{◌≡◌}
 use Prim.Native.Nat.{◌+◌, ◌≤◌}
 use lib.ListN.{length}
+use Rattle.pmc330.specs.Raw.{board_of}
 use Rattle.pmc330_model.specs.Board.{new_board}
 use Rattle.trace.specs.Fields.{range_of, fields_of, is_undamaged, listed}
 use Rattle.trace.proofs.ReplayLaws.{Replaying}
@@ -14,5 +15,5 @@ invariant-loop-field l =
       undamaged : is_undamaged (fields_of l.field-iterator.rest.now) ≡ true;
       indexed : l.index + length (listed (fields_of l.field-iterator.rest.now)) ≤ 16_777_216;
       counted : l.count + length (listed (fields_of l.field-iterator.rest.now)) ≤ 16_777_216;
-      replays : Replaying l.trace.trace.now (new_board (range_of l.trace.trace.now)) l.board (listed (fields_of l.field-iterator.rest.now)) l.index l.count l.answer;
+      replays : Replaying l.trace.trace.now (new_board (range_of l.trace.trace.now)) (board_of l.board) (listed (fields_of l.field-iterator.rest.now)) l.index l.count l.answer;
     }
