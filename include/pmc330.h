@@ -249,7 +249,7 @@ typedef struct pmc330_board {
     uint8_t slot;        /* of that code: its slot */
     uint8_t ends;        /* of that code, flag: its store ends a pass */
     uint8_t index;       /* the next conversion's place in its pass, from 0 */
-    uint8_t odd;         /* flag: that pass is the second, fourth, .. of the cycle */
+    uint8_t odd;         /* flag, in differential alone: that pass is the second, fourth, .. of the cycle */
     uint16_t spare;      /* fills the struct and means nothing: pmc330_open sets it to 0, and no other call reads or writes it */
 } pmc330_board;
 

@@ -3,12 +3,14 @@
 
 pub mod theorems;
 
-ghost use Rattle.std.specs.Prelude.{◌≡◌, ◌+◌, ◌*◌, ◌<◌, ◌≤◌, ◌%◌, ◌^◌, length, flat_map, nat_le, is_some, IfSome};
+ghost use Rattle.std.specs.Prelude.{◌≡◌, ◌+◌, ◌*◌, ◌<◌, ◌≤◌, ◌%◌, ◌^◌, length, flat_map, nat_le, is_some, IfSome, OnOk};
+ghost use Rattle.std.specs.Io.KnownBytes.{Appends};
 ghost use Rattle.std.specs.Simd.{first_chunks};
 ghost use Rattle.lines.specs.Text.{digit_of, hex_of, line_of, number_in, word_in, text_of, taken, put_lines, Begins};
 
 use itoa::Buffer;
-use std::{array, fmt};
+use std::io::Write;
+use std::{array, fmt, io};
 
 // The eight hexadecimal digits of a value.
 fn hex_digits(value: u32) -> [u8; 8]
@@ -92,6 +94,15 @@ impl Line {
                 put_parts(out, &[b"differs ", index, b" ", count, b"\n"])
             }
         }
+    }
+
+    /// The line written out at once: `write!` writes each of its pieces by itself.
+    pub fn write_to<W: Write>(self, output: &mut W) -> io::Result<()>
+        ensures { OnOk result (Appends (W.contents output.old) (W.contents output.new) (text_of self)) }
+    {
+        let mut text = [0u8; 32];
+        let end = self.put(&mut text);
+        output.write_all(&text[..end])
     }
 }
 

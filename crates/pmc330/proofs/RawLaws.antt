@@ -1,5 +1,6 @@
 -- A call on a board that is held: refused, or accepted.
-use mathlib.Core.Path.{◌≡◌, sym, ap, subst, ◌∙◌}
+use mathlib.Core.Bool.{true}
+use mathlib.Core.Path.{◌≡◌, refl, sym, ap, subst, ◌∙◌}
 use Prim.Native.Nat.{ℕ, ◌≤◌}
 use native.Mathlib.Omega.{arith}
 use Rattle.std.proofs.lemmas.Bool.{false≢true}
@@ -12,7 +13,7 @@ use Rattle.pmc330_model.specs.Calls.{Call}
 use Rattle.pmc330_model.specs.Board.{questions_of, after_call, value_of_call}
 use Rattle.pmc330_model.specs.declared.Reply.{Reply}
 use Rattle.pmc330_model.proofs.Replies.{refused_reply, accepted_reply}
-use Rattle.pmc330.specs.Raw.{is_set, Plain, board_of, raw_of, Does}
+use Rattle.pmc330.specs.Raw.{is_set, Plain, board_of, raw_of, changes_one, Does}
 use Rattle.pmc330.specs.declared.raw.RawBoard.{RawBoard}
 
 pub refused :
@@ -24,19 +25,24 @@ refused call before after {told} {refusal} is first same =
       answer = is ∙ ap (λ (r : Reply). r.answer) e;
       board = ap board_of same ∙ ap (λ (r : Reply). r.board) e;
       kept = λ no. same;
+      rest = λ one. subst (λ (h : RawBoard). h ≡ record before { inputs = h.inputs; unread = h.unread }) (sym same) refl;
+      spare = ap (λ (h : RawBoard). h.spare) same;
       plain = λ h. subst Plain (sym same) h;
     }
 
 pub accepted :
     (call : Call) (before after : RawBoard) (value : ℕ) → asked (questions_of (board_of before) call) ≡ Ok record {}
     → board_of after ≡ after_call (board_of before) call → value ≡ value_of_call (board_of before) call
-    → (Plain before → Plain after) → Does call before (Ok value) after
-accepted call before after value met board answer plain =
+    → (changes_one call ≡ true → after ≡ record before { inputs = after.inputs; unread = after.unread })
+    → after.spare ≡ before.spare → (Plain before → Plain after) → Does call before (Ok value) after
+accepted call before after value met board answer rest spare plain =
     let e = accepted_reply (board_of before) call (board_of after) value (ok_first (questions_of (board_of before) call) met) board answer in
     record {
       answer = ap (λ (r : Reply). r.answer) e;
       board = ap (λ (r : Reply). r.board) e;
       kept = λ no. absurd (false≢true (sym no));
+      rest = rest;
+      spare = spare;
       plain = plain;
     }
 

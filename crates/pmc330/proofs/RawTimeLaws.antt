@@ -172,13 +172,16 @@ taken_plain index h p = grind arith
 stored_plain : (ends : Bool) (h : RawBoard) → Plain h → Plain (raw_stored ends h)
 stored_plain ends h p = grind arith
 
--- a run of the bytes is a run of the board, and leaves plain bytes plain
+-- a run of the bytes is a run of the board, leaves what fills the struct, and plain bytes plain
 module _ (p : Plan) (n : ℕ) (s : Scan RawBoard) where
   pub run_seen : schedule.scan (schedule.advanced p raw_effects n s).timer (board_of (schedule.advanced p raw_effects n s).board) ≡ schedule.advanced p board_effects n (schedule.scan s.timer (board_of s.board))
   run_seen = advanced_seen p raw_effects board_effects board_of taken_seen stored_seen n s
 
   pub run_stores_seen : schedule.stores_in p raw_effects n s ≡ schedule.stores_in p board_effects n (schedule.scan s.timer (board_of s.board))
   run_stores_seen = stores_seen p raw_effects board_effects board_of taken_seen stored_seen n s
+
+  pub run_spare : (schedule.advanced p raw_effects n s).board.spare ≡ s.board.spare
+  run_spare = advanced_holds p raw_effects (λ (h : RawBoard). h.spare ≡ s.board.spare) (λ index h same. same) (λ ends h same. same) n s refl
 
   pub run_plain : Plain s.board → Plain (schedule.advanced p raw_effects n s).board
   run_plain = advanced_holds p raw_effects Plain taken_plain stored_plain n s

@@ -1,11 +1,11 @@
 -- The board that C holds: what its fields mean, and what a call does to it. A flag is set by any number but 0, so whatever the
 -- bytes are, they hold a board.
-use Rattle.std.specs.Prelude.{ℕ, Bool, false, not, Result, Ok, Err, ⊤, ◌≡◌, ◌≤◌, ◌==◌}
+use Rattle.std.specs.Prelude.{ℕ, Bool, true, false, not, Result, Ok, Err, ⊤, ◌≡◌, ◌≤◌, ◌==◌}
 use Rattle.analog.specs.Answers.{Answer, is_accepted, asked}
 use Rattle.analog.specs.declared.Refusal.{Refusal}
 use Rattle.schedule.specs.declared.Timer.{Timer}
 use Rattle.pmc330_model.specs.Board.{board_call, after_write}
-use Rattle.pmc330_model.specs.Calls.{Call}
+use Rattle.pmc330_model.specs.Calls.{Call, read, write, input, advance, trigger, reset, look, clear}
 use Rattle.pmc330_model.specs.Questions.{word_questions}
 use Rattle.pmc330_model.specs.Words.{to_bit, with_word}
 use Rattle.pmc330_model.specs.declared.Register.{Register}
@@ -82,12 +82,26 @@ raw_of b =
       spare = 0;
     }
 
--- a call on a board that is held, whatever its bytes: the answer, the board then, and every byte as it was where it is refused. Where
--- the bytes are plain, they are then, and so each of them is settled by the board
+-- a read, an input, a look and a clear: of the bytes they change an input's or a count's alone
+abbrev pub changes_one : Call → Bool
+changes_one (read width offset) = true
+changes_one (write width offset value) = false
+changes_one (input channel microvolts) = true
+changes_one (advance ticks) = false
+changes_one trigger = false
+changes_one reset = false
+changes_one (look slot) = true
+changes_one (clear slot) = true
+
+-- a call on a board that is held, whatever its bytes: the answer, the board then, and every byte as it was where it is refused; of a
+-- call that changes one input or count every other byte as it was, and what fills the struct in any case. Where the bytes are plain,
+-- they are then, and so each of them is settled by the board
 pub record Does (call : Call) (before : RawBoard) (told : Answer) (after : RawBoard) : Type 0 where
   pub answer : told ≡ (board_call (board_of before) call).answer
   pub board : board_of after ≡ (board_call (board_of before) call).board
   pub kept : is_accepted told ≡ false → after ≡ before
+  pub rest : changes_one call ≡ true → after ≡ record before { inputs = after.inputs; unread = after.unread }
+  pub spare : after.spare ≡ before.spare
   pub plain : Plain before → Plain after
 
 -- ---- a write of a word
@@ -99,4 +113,5 @@ pub record Puts (register : Register) (word : ℕ) (before : RawBoard) (told : R
       ≡ asked (word_questions (registers_of before) (not (is_set before.running)) register word (with_word register word (registers_of before)))
   pub done : told ≡ Ok record {} → board_of after ≡ after_write register word (board_of before)
   pub kept : (refusal : Refusal) → told ≡ Err refusal → after ≡ before
+  pub spare : after.spare ≡ before.spare
   pub plain : Plain before → Plain after

@@ -9,7 +9,7 @@ mod time;
 mod upcoming;
 mod writes;
 
-ghost use Rattle.std.specs.Prelude.{◌≡◌, false, true};
+ghost use Rattle.std.specs.Prelude.{◌≡◌, false, true, pos, replicate};
 ghost use Rattle.analog.specs.Answers.{is_accepted};
 ghost use Rattle.pmc330_model.specs.Board.{new_board, cleared_board, request_line, look_call, open_call};
 ghost use Rattle.pmc330_model.specs.Calls.{input, clear, reset};
@@ -69,9 +69,18 @@ pub struct RawBoard {
     pub spare: u16,
 }
 
+// The inputs of a new board. Out of line: where the compiler sees that a whole struct becomes 0, it calls C's `memset`, and the
+// archive is to need nothing from outside.
+#[inline(never)]
+fn no_inputs() -> [i32; 32]
+    ensures { result ≡ replicate 32 (pos 0) }
+{
+    [0; 32]
+}
+
 // The board that a record holds.
 impl From<Board> for RawBoard {
-    ghost from_gives = { λ b raw. board_of raw ≡ b };
+    ghost from_gives = { λ b raw. (board_of raw ≡ b) × Plain raw };
 
     fn from(b: Board) -> RawBoard {
         let r = b.registers;
@@ -103,7 +112,7 @@ impl From<Board> for RawBoard {
             ends: u8::from(t.ends),
             index: t.index,
             odd: u8::from(c.odd),
-            spare: 0,
+            spare: 0, // equal boards have equal bytes
         }
     }
 }
@@ -132,13 +141,15 @@ impl From<&RawBoard> for Board {
     }
 }
 
-// By hand: a derived one promises its fields, and each caller would need a law that they are a new board.
+// By hand: a derived one promises its fields, and each caller would need a law that they are a new board. Out of line, as
+// `no_inputs` is: in line the struct would be copied into its place, by C's `memcpy`.
 impl Default for RawBoard {
-    ghost is_default = { λ raw. board_of raw ≡ new_board 0 };
+    ghost is_default = { λ raw. (board_of raw ≡ new_board 0) × Plain raw };
 
+    #[inline(never)]
     fn default() -> Self {
         RawBoard {
-            inputs: [0; 32],
+            inputs: no_inputs(),
             lead: 0,
             lag: 0,
             codes: [0; 32],
@@ -204,6 +215,7 @@ impl RawBoard {
     // All is 0 but the range and the inputs.
     fn set_idle(&mut self)
         ensures board { board_of self.new ≡ cleared_board self.old.range self.old.inputs }
+        ensures spare { self.new.spare ≡ self.old.spare }
         ensures plain { self.old.spare ≡ 0 → Plain self.new }
     {
         self.gains = [0; 32];
@@ -232,7 +244,7 @@ impl RawBoard {
         ensures { Does reset self.old result self.new }
     {
         self.set_idle();
-        Ok(0)
+        Ok(0) // a reset is asked nothing
     }
 
     /// A new board of a range, 0 to 3, in place of whatever was there. Refused with 14, that stays.
@@ -247,7 +259,7 @@ impl RawBoard {
             return Err(Refusal::BadRange);
         }
         self.range = range as u8;
-        self.inputs = [0; 32];
+        self.inputs = no_inputs();
         self.spare = 0;
         self.set_idle();
         Ok(0)

@@ -36,8 +36,7 @@ fn run<R: Read, W: Write>(input: &mut R, output: &mut W) -> io::Result<()>
 {
     let mut bytes = [0u8; MOST_BYTES];
     let n = reads::read_full(input, &mut bytes)?;
-    let line = line_of(trace::replay(&bytes[..n]));
-    write!(output, "{line}")
+    line_of(trace::replay(&bytes[..n])).write_to(output)
 }
 
 fn main(rt: HostRuntime) -> io::Result<()> {

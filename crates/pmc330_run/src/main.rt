@@ -8,10 +8,8 @@ ghost use Rattle.std.specs.Io.KnownBytes.{Appends};
 ghost use Rattle.pmc330_run.specs.Printed.{outcome_text, printed_of};
 
 use analog::Refusal;
-use arrayvec::ArrayString;
 use lines::{CallLines, Line};
 use reads::MOST_BYTES;
-use std::fmt::Write as _;
 use std::io;
 use std::io::{Read, Write};
 
@@ -23,19 +21,23 @@ const ANSWER_BYTES: usize = 5 * MOST_CALLS;
 // A line has at most 32 bytes.
 const TEXT_BYTES: usize = 32 * MOST_CALLS;
 
-// The lines are written out at once: standard output has no buffer.
-fn print<W: Write>(output: &mut W, played: Result<u32, Refusal>, answers: &[u8]) -> io::Result<()>
+// The text is written out at once: standard output has no buffer.
+fn print<W: Write>(
+    output: &mut W,
+    played: Result<u32, Refusal>,
+    answers: &[u8; ANSWER_BYTES],
+) -> io::Result<()>
     ensures { OnOk result (Appends (W.contents output.old) (W.contents output.new) (outcome_text played answers.now)) }
 {
     match played {
         Ok(calls) => {
-            let mut text = ArrayString::<TEXT_BYTES>::new();
-            write!(text, "{}", CallLines { answers, calls })?;
-            output.write_all(text.as_bytes())
+            let mut text = [0u8; TEXT_BYTES];
+            let end = CallLines { answers, calls }.put(&mut text);
+            output.write_all(&text[..end])
         }
         Err(refusal) => {
             let number = refusal.number();
-            write!(output, "{}", Line::Refused { number })
+            Line::Refused { number }.write_to(output)
         }
     }
 }

@@ -250,14 +250,12 @@ impl<'a> TryFrom<&'a [u8]> for Checked<'a> {
 }
 
 impl<'a> Checked<'a> {
-    // The board that its calls begin on.
-    pub(crate) fn board(self) -> RawBoard
-        ensures { board_of result ≡ new_board (range_of self.entry.trace.now) }
+    // A board becomes the one that its calls begin on. In place, since the board would else be copied, by C's `memcpy`.
+    pub(crate) fn open(self, board: &mut RawBoard)
+        ensures { board_of board.new ≡ new_board (range_of self.entry.trace.now) }
     {
-        let mut board = RawBoard::default();
         // the heading has one of a board's ranges
         let _ = board.open(u32::from(self.trace[7]));
-        board
     }
 
     pub(crate) fn fields(self) -> LaterFields<'a>

@@ -13,6 +13,7 @@ ghost use Rattle.trace.specs.Replay.{comparisons_from, first_difference, replaye
 
 use crate::fields::Checked;
 use analog::Refusal;
+use pmc330::raw::RawBoard;
 
 /// The longest trace that is taken, in bytes.
 pub const LONGEST: usize = 16_777_216;
@@ -33,7 +34,8 @@ fn play_calls(trace: Checked, answers: &mut [u8])
     requires { 5 * trace.calls ≤ length answers.old }
     ensures { answers.new ≡ in_buffer (answers_of (range_of trace.entry.trace.now) (calls_of trace.entry.trace.now)) answers.old }
 {
-    let mut board = trace.board();
+    let mut board = RawBoard::default();
+    trace.open(&mut board);
     let mut done: usize = 0;
     for field in trace.fields() {
         if let Some(call) = field.call() {
@@ -49,7 +51,8 @@ fn play_calls(trace: Checked, answers: &mut [u8])
 fn replay_calls(trace: Checked) -> Replayed
     ensures { result ≡ first_difference 0 (comparisons_from 0 (answers_of (range_of trace.entry.trace.now) (calls_of trace.entry.trace.now)) (fields_after trace.entry.trace.now)) }
 {
-    let mut board = trace.board();
+    let mut board = RawBoard::default();
+    trace.open(&mut board);
     let mut index: u32 = 0;
     let mut count: u32 = 0;
     let mut answer = Ok(0);

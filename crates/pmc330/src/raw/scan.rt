@@ -41,6 +41,7 @@ impl RawBoard {
     pub(crate) fn run_for(&mut self, ticks: u32) -> u32
         requires { is_timed (registers_of self.old) ≡ true }
         ensures board { board_of self.new ≡ advanced ticks (board_of self.old) }
+        ensures spare { self.new.spare ≡ self.old.spare }
         ensures plain { Plain self.old → Plain self.new }
         ensures stores { result ≡ stores_in ticks (board_of self.old) }
     {

@@ -29,6 +29,7 @@ impl RawBoard {
     #[inline(always)]
     pub(crate) fn set_timer(&mut self, timer: Timer)
         ensures board { board_of self.new ≡ with_timer (board_of self.old) timer }
+        ensures spare { self.new.spare ≡ self.old.spare }
         ensures plain { Plain self.old → Plain self.new }
     {
         self.running = u8::from(timer.running);
@@ -44,6 +45,7 @@ impl RawBoard {
     pub(crate) fn take_code(&mut self, index: u8)
         ensures raw { self.new ≡ raw_taken index self.old }
         ensures board { board_of self.new ≡ code_taken index (board_of self.old) }
+        ensures spare { self.new.spare ≡ self.old.spare }
         ensures plain { Plain self.old → Plain self.new }
     {
         let differential = self.is_differential();
@@ -63,6 +65,7 @@ impl RawBoard {
     pub(crate) fn store(&mut self, slot: u8, ends: bool)
         ensures raw { self.new ≡ raw_put slot ends self.old }
         ensures board { board_of self.new ≡ stored slot ends (board_of self.old) }
+        ensures spare { self.new.spare ≡ self.old.spare }
         ensures plain { Plain self.old → Plain self.new }
     {
         let at = usize::from(slot % 32);
@@ -76,6 +79,7 @@ impl RawBoard {
     // The next conversion begins.
     fn begin(&mut self)
         ensures board { board_of self.new ≡ begun (board_of self.old) }
+        ensures spare { self.new.spare ≡ self.old.spare }
         ensures plain { Plain self.old → Plain self.new }
     {
         let timer = self.timer();
@@ -87,6 +91,7 @@ impl RawBoard {
     // A cycle with no conversion begun; with an idle timer, none.
     pub(crate) fn open_cycle(&mut self, timer: Timer)
         ensures board { board_of self.new ≡ with_cycle (board_of self.old) (record idle_cycle { timer = timer }) }
+        ensures spare { self.new.spare ≡ self.old.spare }
         ensures plain { Plain self.old → Plain self.new }
     {
         self.set_timer(timer);
@@ -98,6 +103,7 @@ impl RawBoard {
     // A cycle starts.
     pub(crate) fn start(&mut self)
         ensures board { board_of self.new ≡ started (board_of self.old) }
+        ensures spare { self.new.spare ≡ self.old.spare }
         ensures plain { Plain self.old → Plain self.new }
     {
         self.unread = [0; 32];
@@ -110,6 +116,7 @@ impl RawBoard {
     // A trigger that is taken: its store first, then its code.
     fn take_trigger(&mut self)
         ensures board { board_of self.new ≡ trigger_taken (board_of self.old) }
+        ensures spare { self.new.spare ≡ self.old.spare }
         ensures plain { Plain self.old → Plain self.new }
     {
         if self.waiting != 0 {
@@ -121,6 +128,7 @@ impl RawBoard {
     // A trigger that arms by itself.
     fn arm(&mut self)
         ensures board { board_of self.new ≡ armed_by_trigger (board_of self.old) }
+        ensures spare { self.new.spare ≡ self.old.spare }
         ensures plain { Plain self.old → Plain self.new }
     {
         self.store(self.start, false);
@@ -133,6 +141,7 @@ impl RawBoard {
     fn triggered(&mut self)
         requires { eqb (trigger_field self.old.control) 1 ≡ true }
         ensures board { board_of self.new ≡ triggered (board_of self.old) }
+        ensures spare { self.new.spare ≡ self.old.spare }
         ensures plain { Plain self.old → Plain self.new }
     {
         if self.running != 0 {

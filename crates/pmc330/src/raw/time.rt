@@ -57,6 +57,7 @@ impl RawBoard {
         requires running { is_set self.old.running ≡ true }
         requires quiet { (not (is_timed (registers_of self.old)) || is_quiet_for n (timer_of self.old)) ≡ true }
         ensures board { board_of self.new ≡ advanced n (board_of self.old) }
+        ensures spare { self.new.spare ≡ self.old.spare }
         ensures plain { Plain self.old → Plain self.new }
         ensures none { stores_in n (board_of self.old) ≡ 0 }
     {
@@ -102,6 +103,7 @@ impl RawBoard {
     fn run_spans(&mut self, span: u32, ticks: u32) -> u32
         requires { is_timed (registers_of self.old) ≡ true }
         ensures board { board_of self.new ≡ advanced ticks (board_of self.old) }
+        ensures spare { self.new.spare ≡ self.old.spare }
         ensures plain { Plain self.old → Plain self.new }
         ensures stores { result ≡ stores_in ticks (board_of self.old) }
     {

@@ -114,6 +114,7 @@ impl RawBoard {
     // A mailbox read clears the slot's New and Missed bits.
     fn after_read(&mut self, register: Register)
         ensures board { board_of self.new ≡ after_read register (board_of self.old) }
+        ensures rest { self.new ≡ record self.old { inputs = self.new.inputs; unread = self.new.unread } }
         ensures plain { Plain self.old → Plain self.new }
     {
         if let Register::Mailbox(slot) = register {

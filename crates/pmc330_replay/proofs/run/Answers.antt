@@ -10,4 +10,4 @@ returns g c =
     let bytes : List ℕ = c.read_full.new.buf in
     let size : length bytes ≡ 32768 = search rules in
     appends_of_known _ _ _ _ 32768 (take c.in_ok-n.n bytes) _ (λ read. printed_of (replayed read))
-    (rw size at c.in_ok-n.ensures.front) (c.line_of-line.ensures ∙ ap printed_of c.replay.ensures) c.write.ensures.bytes
+    (rw size at c.in_ok-n.ensures.front) (c.line_of.ensures ∙ ap printed_of c.replay.ensures) c.write_to.ensures

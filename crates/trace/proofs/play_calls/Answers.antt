@@ -33,8 +33,8 @@ loop-field-init c =
     record {
       undamaged = subst (λ (l : List ℕ). is_undamaged (fields_of l) ≡ true) at (ap is_undamaged (walkable trace c.args.trace.passed).undamaged);
       plays =
-          subst (λ (l : List ℕ). Playing trace c.args.answers.now (new_board (range_of trace)) c.args.answers.now (board_of c.board-board.result) (listed (fields_of l)) 0) at
-          (rw c.board-board.ensures (opening trace c.args.answers.now (new_board (range_of trace)) (omega (arith, c.requires, c.args.trace.counted))));
+          subst (λ (l : List ℕ). Playing trace c.args.answers.now (new_board (range_of trace)) c.args.answers.now (board_of c.open.new.board) (listed (fields_of l)) 0) at
+          (rw c.open.ensures (opening trace c.args.answers.now (new_board (range_of trace)) (omega (arith, c.requires, c.args.trace.counted))));
     }
 
 pub put-requires : goal.put-requires

@@ -41,8 +41,8 @@ loop-field-init c =
       indexed = few;
       counted = few;
       replays =
-          subst (λ (l : List ℕ). Replaying trace (new_board (range_of trace)) (board_of c.board-board.result) (listed (fields_of l)) 0 0 (Ok 0)) at
-          (rw c.board-board.ensures (replay_opens trace (new_board (range_of trace))));
+          subst (λ (l : List ℕ). Replaying trace (new_board (range_of trace)) (board_of c.open.new.board) (listed (fields_of l)) 0 0 (Ok 0)) at
+          (rw c.open.ensures (replay_opens trace (new_board (range_of trace))));
     }
 
 pub loop-field-preserved-in-Some-call : goal.loop-field-preserved-in-Some-call

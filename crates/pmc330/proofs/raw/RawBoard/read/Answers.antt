@@ -6,6 +6,7 @@ use Rattle.pmc330_model.specs.Calls.{read}
 use Rattle.pmc330_model.specs.Words.{read_word, read_bytes}
 use Rattle.pmc330_model.specs.declared.Registers.{Registers}
 use Rattle.pmc330.specs.Raw.{board_of, is_set}
+use Rattle.pmc330.specs.declared.raw.RawBoard.{RawBoard}
 use Rattle.pmc330.specs.Widths.{bits_of, IsAccess, view_in}
 use Rattle.pmc330.proofs.AccessLaws.{read_refused, read_asked, read_board, read_value}
 use Rattle.pmc330.proofs.RawLaws.{refused, accepted}
@@ -42,4 +43,6 @@ returns c =
     (c.read_bytes.ensures
     ∙ ap (read_bytes (bits_of access.access.width) access.access.offset) (word.ensures ∙ same)
     ∙ read_value (board_of h) a.width a.offset access.access is register.result register.ensures)
+    (λ one. c.after_read.ensures.rest)
+    (ap (λ (after : RawBoard). after.spare) c.after_read.ensures.rest)
     c.after_read.ensures.plain

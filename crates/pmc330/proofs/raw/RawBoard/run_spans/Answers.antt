@@ -98,7 +98,12 @@ overflow_add-made-in-loop-left c = omega (arith, fits (goal.at.overflow_add-made
 pub loop-left-preserved : goal.loop-left-preserved
 loop-left-preserved c =
     let t = (goal.at.loop-left-preserved c).Joined-same in
-    record { run = on t; mode = same_mode t; plain = λ h. c.run_for-stores.ensures.plain (c.loop-left.invariant.plain h) }
+    record {
+      run = on t;
+      mode = same_mode t;
+      spare = c.run_for-stores.ensures.spare ∙ c.loop-left.invariant.spare;
+      plain = λ h. c.run_for-stores.ensures.plain (c.loop-left.invariant.plain h);
+    }
 
 pub returns-clause-board : goal.returns-clause-board
 returns-clause-board c =
@@ -113,6 +118,9 @@ returns-clause-stores c =
     let none : c.loop-left.left ≡ 0 = omega (arith, c.loop-left-test.false) in
     over_stores (plan_of b.registers) board_effects c.args.ticks c.loop-left.left c.loop-left.made _ _ c.loop-left.invariant.run (inl none)
     ∙ sym (bare_stores c.args.ticks b c.requires)
+
+pub returns-clause-spare : goal.returns-clause-spare
+returns-clause-spare c = c.loop-left.invariant.spare
 
 pub returns-clause-plain : goal.returns-clause-plain
 returns-clause-plain c = c.loop-left.invariant.plain

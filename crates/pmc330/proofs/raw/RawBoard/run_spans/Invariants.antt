@@ -11,6 +11,7 @@ abbrev pub invariant-loop-left : goal.invariant-loop-left
 invariant-loop-left l = record {
   run : Partway (plan_of (registers_of l.initial.self)) board_effects l.ticks l.left l.made (bare (board_of l.initial.self)) (bare (board_of l.self));
   mode : registers_of l.self ≡ registers_of l.initial.self;
+  spare : l.self.spare ≡ l.initial.self.spare;
   plain : Plain l.initial.self → Plain l.self;
 }
 

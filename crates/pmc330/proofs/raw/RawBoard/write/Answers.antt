@@ -4,6 +4,7 @@ use mathlib.Core.List.{List, [], ◌∷◌}
 use mathlib.Core.Path.{◌≡◌, refl, sym, ap, ◌∙◌}
 use Prim.Native.Nat.{ℕ, ◌^◌}
 use lib.Dec.{ltb}
+use Rattle.std.proofs.lemmas.Bool.{false≢true}
 use Rattle.std.proofs.lemmas.Result.{err_from_is_err_and}
 use Rattle.std.specs.Prelude.{Err, Result, ⊤}
 use Rattle.analog.specs.Answers.{Question, question, asked}
@@ -81,4 +82,6 @@ returns c =
     (questions_left at c.in_ok-of_value.ensures ∙ sym put.asks)
     (put.done refl ∙ write_board (board_of a.self.now) a.width a.offset access.access access.ensures _ c.register-register.ensures a.value _ (written at))
     refl
+    (λ one. absurd (false≢true one))
+    put.spare
     put.plain

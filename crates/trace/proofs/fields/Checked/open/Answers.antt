@@ -3,7 +3,7 @@ use mathlib.Core.Path.{◌∙◌}
 use native.Mathlib.Omega.{arith}
 use Rattle.trace.proofs.CheckLaws.{is_heading_lem, walkable}
 use Rattle.trace.proofs.PlayLaws.{opened_board}
-use Rattle.trace.proofs.fields.Checked.board.Goals as goal
+use Rattle.trace.proofs.fields.Checked.open.Goals as goal
 
 pub bounds-self-7 : goal.bounds-self-7
 bounds-self-7 c = omega (arith, (walkable c.args.self.trace.now c.args.self.passed).long)
